@@ -1,0 +1,16 @@
+//! Where bytes come from and go to, and numbers in decimal.
+#![tactic(auto)]
+
+mod faults;
+mod mem_sink;
+mod mem_source;
+mod number;
+mod sink;
+mod source;
+
+pub use faults::{Failed, NoMemory};
+pub use mem_sink::MemSink;
+pub use mem_source::MemSource;
+pub use number::read_number;
+pub use sink::Sink;
+pub use source::Source;

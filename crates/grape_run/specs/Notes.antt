@@ -1,0 +1,43 @@
+-- The line that a run writes where it isn't done, and the words that it takes.
+use Rattle.std.specs.Prelude.{ℕ, List, [], ◌∷◌, ◌++◌, Option, Some, None, codes, decimal, bytes_eq, if◌then◌else◌}
+use Rattle.graph_text.specs.declared.fault.Why.{Why}
+use Rattle.graph_text.specs.declared.fault.Why.TheVariants as causes
+use Rattle.grape_run.specs.declared.status.Status.{Status}
+use Rattle.grape_run.specs.declared.status.Status.TheVariants as status
+use Rattle.grape_run.specs.declared.words.Mode.{Mode}
+use Rattle.grape_run.specs.declared.words.Mode.TheVariants as mode
+
+-- what the words ask for, if they ask for anything
+abbrev pub mode_of : List (List ℕ) → Option Mode
+mode_of [] = None
+mode_of (word ∷ []) = if bytes_eq word (codes "run") then Some mode.Run else None
+mode_of (word ∷ next ∷ words) = None
+
+abbrev pub why_text : Why → List ℕ
+why_text causes.Word = codes "word"
+why_text causes.Number = codes "number"
+why_text causes.Count = codes "count"
+why_text causes.Range = codes "range"
+why_text causes.Twice = codes "twice"
+why_text causes.TooMany = codes "too-many"
+why_text causes.NoQuery = codes "no-query"
+why_text causes.NoSource = codes "no-source"
+why_text causes.NoPattern = codes "no-pattern"
+why_text causes.TooLong = codes "too-long"
+
+abbrev pub note_text : Status → List ℕ
+note_text status.Done = []
+note_text status.BadWords = codes "grape: usage: run, resume, or demo VERTICES NUMBER\n"
+note_text (status.BadInput line why) = codes "grape: input line " ++ decimal line ++ codes ": " ++ why_text why ++ codes "\n"
+note_text status.ReadFault = codes "grape: read fault\n"
+note_text status.WriteFault = codes "grape: write fault\n"
+note_text status.NoMemory = codes "grape: out of memory\n"
+
+-- the exit number of a status
+abbrev pub code_of : Status → ℕ
+code_of status.Done = 0
+code_of status.BadWords = 2
+code_of (status.BadInput line why) = 3
+code_of status.ReadFault = 4
+code_of status.WriteFault = 5
+code_of status.NoMemory = 10

@@ -1,0 +1,64 @@
+-- What a run has read and written when it answers a status.
+use Rattle.std.specs.Prelude.{◌≡◌, ℕ, ◌⊎◌, List, [], ◌++◌, Option, Some, None, Result, Ok, Err, ⊤}
+use Rattle.grape_port.specs.Ports.{Rose, Appends}
+use Rattle.graph_core.specs.declared.job.Job.{Job}
+use Rattle.graph_text.specs.Input.{bad, input_of, shown_of}
+use Rattle.answer_text.specs.AnswerText.{IsAnswerText}
+use Rattle.graph_text.specs.declared.fault.TextFault.TheVariants as text_faults
+use Rattle.grape_run.specs.declared.input.InputFault.{InputFault}
+use Rattle.grape_run.specs.declared.input.InputFault.TheVariants as faults
+use Rattle.grape_run.specs.declared.status.Status.{Status}
+use Rattle.grape_run.specs.declared.status.Status.TheVariants as status
+
+-- what the source had is the text that was read and the rest, and the whole was read where the rest is empty
+abbrev pub IsJobText : List ℕ → List ℕ → Type 0
+IsJobText read rest = (job : Job) × (rest ≡ []) × (input_of read ≡ Ok job)
+
+-- what a status says of the text that was read, and of what was left
+abbrev pub FitsRead : Status → List ℕ → List ℕ → Type 0
+FitsRead status.Done read rest = IsJobText read rest
+FitsRead status.BadWords read rest = read ≡ []
+FitsRead (status.BadInput line why) read rest = (shown_of read ≡ Some (bad line why)) ⊎ ((rest ≡ []) × (input_of read ≡ Err (bad line why)))
+FitsRead status.ReadFault read rest = shown_of read ≡ None
+FitsRead status.WriteFault read rest = IsJobText read rest
+FitsRead status.NoMemory read rest = ⊤
+
+-- a source was read, up to some place, by a run with this status
+abbrev pub ReadsSource : Status → Option (List ℕ) → Option (List ℕ) → Type 0
+ReadsSource s None after = after ≡ None
+ReadsSource s (Some before) after = (read rest : List ℕ) × (before ≡ read ++ rest) × (after ≡ Some rest) × FitsRead s read rest
+
+-- the answer of the job that the text is, whole, or a front of it
+abbrev pub AppendsAnswer : List ℕ → Option (List ℕ) → Option (List ℕ) → Type 0
+AppendsAnswer text before after = (job : Job) × (input_of text ≡ Ok job) × (answer : List ℕ) × IsAnswerText job answer × Appends before answer after
+
+abbrev pub AppendsFront : List ℕ → Option (List ℕ) → Option (List ℕ) → Type 0
+AppendsFront text before after = (job : Job) × (input_of text ≡ Ok job) × (front rest : List ℕ) × IsAnswerText job (front ++ rest) × Appends before front after
+
+-- what a run with this status wrote, where its source had this text
+abbrev pub WritesFor : Status → List ℕ → Option (List ℕ) → Option (List ℕ) → Type 0
+WritesFor status.Done text before after = AppendsAnswer text before after
+WritesFor status.WriteFault text before after = AppendsFront text before after
+WritesFor s text before after = after ≡ before
+
+-- a run answers neither of the statuses after which something is written
+abbrev pub IsSilent : Status → Type 0
+IsSilent status.Done = ⊥
+IsSilent status.WriteFault = ⊥
+IsSilent s = ⊤
+
+-- the whole text was added, or, where the count of faults rose, a front of it
+abbrev pub AppendsUnlessFault : Option (List ℕ) → List ℕ → Option (List ℕ) → ℕ → ℕ → Type 0
+AppendsUnlessFault before text after faults_before faults_after =
+    Appends before text after ⊎ (Rose faults_before faults_after × (front rest : List ℕ) × (text ≡ front ++ rest) × Appends before front after)
+
+-- what reading a job gave, where the source told its text: the part that was read, and the rest
+abbrev pub FitsText : Result Job InputFault → List ℕ → List ℕ → Type 0
+FitsText (Ok job) read rest = (rest ≡ []) × (input_of read ≡ Ok job)
+FitsText (Err (faults.Text (text_faults.Bad line why))) read rest = (shown_of read ≡ Some (bad line why)) ⊎ ((rest ≡ []) × (input_of read ≡ Err (bad line why)))
+FitsText (Err (faults.Text text_faults.NoMemory)) read rest = ⊤
+FitsText (Err faults.Failed) read rest = shown_of read ≡ None
+
+abbrev pub ReadsJob : Option (List ℕ) → Option (List ℕ) → Result Job InputFault → Type 0
+ReadsJob None after result = after ≡ None
+ReadsJob (Some before) after result = (read rest : List ℕ) × (before ≡ read ++ rest) × (after ≡ Some rest) × FitsText result read rest

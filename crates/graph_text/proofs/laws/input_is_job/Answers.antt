@@ -1,0 +1,33 @@
+use Rattle.std.proofs.Common.{◌≡◌, ℕ, List, [], ◌∷◌, Option, Some, None, refl, length, subst}
+use Rattle.std.specs.Prelude.{IfOk}
+use Rattle.std.specs.List.{AllByRecursion}
+use Rattle.std.proofs.lemmas.Option.{same_Some}
+use Rattle.graph_core.specs.Graphs.{IsJob}
+use Rattle.graph_text.specs.declared.fault.Why.{Why}
+use Rattle.graph_text.specs.Lines.{lines_of}
+use Rattle.graph_text.specs.Statements.{Question, Statement, asks}
+use Rattle.graph_text.specs.Input.{BadLine, statements_of, first_bad, cause_of, first_of, question_in, missing_for, job_unless, job_or_cause, job_or_bad, job_of_lines}
+use Rattle.graph_text.proofs.Ranges.{InRange, AsksInRange}
+use Rattle.graph_text.proofs.Good.{AreGood, good_text}
+use Rattle.graph_text.proofs.Jobs.{job_is_job}
+use Rattle.graph_text.proofs.laws.input_is_job.Goals as goal
+
+asks_in_range : (ss : List Statement) (q : Question) → AllByRecursion InRange ss → first_of question_in ss ≡ Some q → AsksInRange q
+asks_in_range [] q h e = absurd (let x : None ≡ Some q = e in cc)
+asks_in_range (asks r ∷ ss) q h e = subst AsksInRange (same_Some r q e) h.0
+asks_in_range (s ∷ ss) q h e = asks_in_range ss q h.1 e
+
+missing_step : (ss : List Statement) (q : Question) (count : ℕ) (o : Option Why) → AreGood ss → AsksInRange q → IfOk (job_or_bad count (job_unless ss q o)) IsJob
+missing_step ss q count None g h = job_is_job ss q g h
+missing_step ss q count (Some why) g h = tt
+
+asks_step : (ss : List Statement) (count : ℕ) (o : Option Question) → AreGood ss → first_of question_in ss ≡ o → IfOk (job_or_bad count (job_or_cause ss o)) IsJob
+asks_step ss count None g e = tt
+asks_step ss count (Some q) g e = missing_step ss q count (missing_for ss q) g (asks_in_range ss q g.in_range e)
+
+lines_step : (lines : List (List ℕ)) (o : Option BadLine) → first_bad cause_of [] lines ≡ o → IfOk (job_of_lines lines o) IsJob
+lines_step lines (Some first) e = tt
+lines_step lines None e = asks_step (statements_of lines) (length lines) (first_of question_in (statements_of lines)) (good_text lines e) refl
+
+pub returns : goal.returns
+returns c = λ text. lines_step (lines_of text) (first_bad cause_of [] (lines_of text)) refl

@@ -1,0 +1,8 @@
+use Rattle.std.proofs.Common.{ap, ◌++◌}
+use Rattle.graph_text.specs.Lines.{lines_of}
+use Rattle.graph_text.specs.Input.{job_of_lines}
+use Rattle.graph_text.proofs.Cuts.{shown_first}
+use Rattle.graph_text.proofs.laws.shown_is_first.Goals as goal
+
+pub returns : goal.returns
+returns c = λ front rest bad h. ap (job_of_lines (lines_of (front ++ rest))) (shown_first front rest bad h)

@@ -1,0 +1,34 @@
+-- What a reader of lines has read.
+use Rattle.std.specs.Prelude.{◌≡◌, ℕ, List, Option, Some, None, Result, Ok, Err, ⊤}
+use Rattle.graph_core.specs.declared.job.Job.{Job}
+use Rattle.graph_text.specs.declared.fault.TextFault.{TextFault}
+use Rattle.graph_text.specs.declared.fault.TextFault.TheVariants as fault
+use Rattle.graph_text.specs.Input.{BadLine, bad, shown_of}
+use Rattle.graph_text.specs.ReaderState.{ReaderState}
+
+-- The reader has read this text and no more, and has answered no fault.
+pub record HasRead (r : ReaderState) (text : List ℕ) : Type 0 where
+  pub text_is : r.text ≡ text
+  pub no_fault : r.fault ≡ None
+  pub none_shown : shown_of text ≡ None
+
+-- The reader has answered this fault.
+abbrev pub HasFailed : ReaderState → TextFault → Type 0
+HasFailed r f = r.fault ≡ Some f
+
+-- a fault is of this bad line, or memory ran out
+abbrev pub IsFaultOf : TextFault → BadLine → Type 0
+IsFaultOf (fault.Bad line why) b = b ≡ bad line why
+IsFaultOf fault.NoMemory b = ⊤
+
+-- no fault where no bad line is shown, and else a fault of that line; or memory ran out
+abbrev pub Answers : {A : Type 0} → Result A TextFault → Option BadLine → Type 0
+Answers (Ok a) shown = shown ≡ None
+Answers (Err (fault.Bad line why)) shown = shown ≡ Some (bad line why)
+Answers (Err fault.NoMemory) shown = ⊤
+
+-- the job that the text is, or a fault of its first bad line; or memory ran out
+abbrev pub Gives : Result Job TextFault → Result Job BadLine → Type 0
+Gives (Ok job) input = input ≡ Ok job
+Gives (Err (fault.Bad line why)) input = input ≡ Err (bad line why)
+Gives (Err fault.NoMemory) input = ⊤
