@@ -5,6 +5,7 @@ mod fault;
 mod laws;
 mod line_reader;
 mod statement;
+mod words;
 mod worked;
 
 pub use fault::{TextFault, Why};
