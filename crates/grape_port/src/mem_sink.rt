@@ -1,11 +1,10 @@
 ghost use Rattle.std.specs.Prelude.{◌≡◌, ◌<◌, ◌≤◌, ◌↔◌, Some, IfOk, OnOk, OnErr, IsErr, IsTrue, length};
 ghost use Rattle.grape_port.specs.MemPorts.{new_sink, refuses, fails_next, taken_count, sink_took, sink_flushed, sink_failed};
 
-use std::alloc::Global;
-use std::marker::Model;
-
 use crate::faults::{Failed, NoMemory};
 use crate::sink::Sink;
+use std::alloc::Global;
+use std::marker::Model;
 
 /// Bytes in memory, taken in pieces. A fake of a writer, for tests.
 #[derive(Drop)]
@@ -36,11 +35,16 @@ impl MemSink {
     /// of some bytes to a full sink; nothing is then written or flushed.
     ///
     /// Calls are counted in 64 bits, and the last number is that of each call from there on.
-    pub fn new(alloc: Global, room: usize, most: usize, fails: Vec<u64>) -> Result<MemSink, NoMemory>
+    pub fn new(
+        alloc: Global,
+        room: usize,
+        most: usize,
+        fails: Vec<u64>,
+    ) -> Result<MemSink, NoMemory>
         requires { 1 ≤ most }
         ensures { IfOk result (λ sink. sink ≡ new_sink room most fails.items) }
     {
-        let bytes = Vec::with_capacity(alloc, room).map_err(|_| NoMemory)?;
+        let bytes = Vec::with_capacity(alloc, room)?;
         Ok(MemSink {
             bytes,
             flushed: 0,

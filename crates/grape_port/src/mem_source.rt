@@ -1,10 +1,9 @@
 ghost use Rattle.std.specs.Prelude.{◌≡◌, ◌<◌, ◌≤◌, ◌↔◌, [], ◌++◌, Some, IfOk, OnOk, OnErr, IsErr, IsTrue, length, take, drop};
 ghost use Rattle.grape_port.specs.MemPorts.{new_source, fails_next, given_count, source_gave, source_failed};
 
-use std::marker::Model;
-
 use crate::faults::Failed;
 use crate::source::Source;
+use std::marker::Model;
 
 /// Bytes in memory, given in pieces. A fake of a reader, for tests.
 #[derive(Drop)]
