@@ -1,7 +1,7 @@
 use Rattle.std.proofs.Common.{◌≡◌, ℕ, ◌<◌, ◌^◌, List, take, true}
 use Rattle.std.specs.List.{list_all}
 use Rattle.grape_port.specs.Decimal.{is_digit, digits_value}
-use Rattle.grape_port.proofs.number.read_number.Given as goal
+use Rattle.grape_port.proofs.number.short_number.Given as goal
 
 -- the digits so far stand for the value
 pub record Digits (text : List ℕ) (i value : ℕ) : Type 0 where
@@ -10,4 +10,4 @@ pub record Digits (text : List ℕ) (i value : ℕ) : Type 0 where
   pub small : value < 10 ^ i
 
 abbrev pub invariant-loop-byte : goal.invariant-loop-byte
-invariant-loop-byte l = Digits l.text l.byte-index l.value
+invariant-loop-byte l = Digits l.digits l.byte-index l.value
