@@ -1,5 +1,5 @@
 ghost use Rattle.std.specs.Prelude.{◌≡◌, ◌≢◌, ◌<◌, ◌↔◌, IfOk, IsTrue, All, length, replicate, slice_index, slice_set};
-ghost use Rattle.value_order.specs.Order.{NOTHING, meet_of};
+ghost use Rattle.value_order.specs.Order.{meet_of};
 ghost use Rattle.message_buffer.specs.Hands.{new_hand, lowered_hand};
 
 use grape_port::NoMemory;

@@ -1,6 +1,8 @@
 //! Evaluation on one fragment: its values, and the programs.
 #![tactic(auto)]
 
+mod worklist;
+
 ghost use Rattle.std.specs.Prelude.{◌≡◌, ℕ, ◌+◌, ◌<◌, ◌↔◌, List, length};
 ghost use Rattle.graph_core.specs.declared.job.Job.{Job};
 ghost use Rattle.value_order.specs.declared.order.Order.{Order};
@@ -11,6 +13,7 @@ ghost use Rattle.pie_core.specs.Laws.{LocalSolutionIsUnique, LocalSolutionIsComp
 use graph_core::Fragment;
 use std::marker::Model;
 use value_order::Order;
+pub use worklist::Worklist;
 
 /// The values of all places of a fragment.
 #[derive(Drop)]
