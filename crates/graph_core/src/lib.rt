@@ -1,11 +1,13 @@
 //! Graphs, queries and jobs; the equations of a query; the fragments of a graph.
 #![tactic(auto)]
 
+mod copies;
 mod edge;
 mod fragment;
 mod graph;
 mod job;
 mod laws;
+mod numbering;
 mod pattern;
 mod query;
 mod settings;

@@ -2,7 +2,7 @@
 use Rattle.std.specs.Prelude.{◌≡◌, ◌≢◌, ℕ, ◌^◌, ◌<◌, ◌≤◌, ◌↔◌, min, List, [], ◌∷◌, bit_and, count_ones}
 use Rattle.value_order.specs.declared.order.Order.{Order}
 use Rattle.value_order.specs.declared.order.Order.TheVariants.{Least, Mask}
-pub use Rattle.value_order.specs.declared.order.TheConstants.{NOTHING}
+use Rattle.value_order.specs.declared.TheConstants.{NOTHING}
 
 -- the greatest value below both: the smaller one, or the bits that both have
 abbrev pub meet_of : Order → ℕ → ℕ → ℕ

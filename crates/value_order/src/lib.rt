@@ -9,4 +9,7 @@ mod laws;
 mod order;
 
 pub use laws::{falls_are_few, meet_laws};
-pub use order::{NOTHING, Order, below, height, meet};
+pub use order::{Order, below, height, meet};
+
+/// Stands for "no message". Each value lies below it in both orders.
+pub const NOTHING: u64 = u64::MAX;

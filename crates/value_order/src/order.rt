@@ -1,9 +1,6 @@
 ghost use Rattle.std.specs.Prelude.{◌≡◌, ◌↔◌, IsTrue};
 ghost use Rattle.value_order.specs.Order.{meet_of, height_of, Below};
 
-/// Stands for "no message". Each value lies below it in both orders.
-pub const NOTHING: u64 = u64::MAX;
-
 /// How the values of a query are compared. Values fall in this order while a query is solved.
 #[derive(Clone, Copy, Debug, PartialEq, Eq)]
 pub enum Order {
