@@ -1,7 +1,7 @@
 -- What the calls on a hand leave.
 use Rattle.std.specs.Prelude.{ℕ, replicate, slice_index, slice_set}
 use Rattle.value_order.specs.declared.order.Order.{Order}
-use Rattle.value_order.specs.declared.order.TheConstants.{NOTHING}
+use Rattle.value_order.specs.declared.TheConstants.{NOTHING}
 use Rattle.value_order.specs.Order.{meet_of}
 use Rattle.message_buffer.specs.HandValues.{HandValues}
 

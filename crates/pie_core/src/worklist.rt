@@ -28,11 +28,11 @@ impl Model for Worklist {
 
 impl Worklist {
     /// An empty list with room for the places below `room`.
-    pub fn new(alloc: Global, room: u32) -> Result<Worklist, NoMemory>
+    pub fn new(alloc: Global, room: usize) -> Result<Worklist, NoMemory>
         ensures { IfOk result (λ list. list ≡ new_list room) }
     {
-        let is_listed = vec![in alloc; false; room as usize].map_err(|_| NoMemory)?;
-        let waiting = VecDeque::with_capacity(alloc, room as usize).map_err(|_| NoMemory)?;
+        let is_listed = vec![in alloc; false; room].map_err(|_| NoMemory)?;
+        let waiting = VecDeque::with_capacity(alloc, room).map_err(|_| NoMemory)?;
         Ok(Worklist { is_listed, waiting })
     }
 
