@@ -1,10 +1,7 @@
 -- What a source and a sink in memory hold, and what each of their calls does.
-use Rattle.std.specs.Prelude.{ℕ, ◌+◌, ◌-◌, ◌^◌, ◌==◌, min, Bool, ◌&&◌, ◌||◌, nat_lt, nat_le, List, [], ◌++◌, length, take, drop}
+use Rattle.std.specs.Prelude.{ℕ, ◌-◌, ◌==◌, min, Bool, ◌&&◌, ◌||◌, nat_lt, nat_le, List, [], ◌++◌, length, take, drop}
 use Rattle.std.specs.List.{list_any}
-
--- one more, in 64 bits: the last number stands for any more
-abbrev pub one_more : ℕ → ℕ
-one_more n = min (n + 1) (2 ^ 64 - 1)
+use Rattle.grape_port.specs.Ports.{one_more}
 
 -- the call that comes after so many is one of those that fail
 abbrev pub fails_next : List ℕ → ℕ → Bool
