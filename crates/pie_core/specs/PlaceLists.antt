@@ -1,5 +1,5 @@
 -- A list of places as contracts see it.
-use Rattle.std.specs.Prelude.{◌≡◌, ℕ, ◌==◌, ◌<◌, ◌≤◌, Bool, true, false, List, length, slice_index_or, nat_eq}
+use Rattle.std.specs.Prelude.{◌≡◌, ℕ, ◌<◌, ◌≤◌, Bool, true, false, List, length, slice_index_or, nat_eq}
 use Rattle.std.specs.List.{list_any, IsDistinct}
 
 -- for how many places it has room, and those that wait, oldest first

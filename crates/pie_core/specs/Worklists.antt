@@ -1,5 +1,5 @@
 -- What the calls on a list of places leave.
-use Rattle.std.specs.Prelude.{◌≡◌, ℕ, if◌then◌else◌, List, [], ◌∷◌, ◌++◌, Option, Some, None}
+use Rattle.std.specs.Prelude.{◌≡◌, ℕ, if◌then◌else◌, [], ◌∷◌, ◌++◌, Option, Some, None}
 use Rattle.pie_core.specs.PlaceLists.{PlaceList, waits}
 
 abbrev pub new_list : ℕ → PlaceList

@@ -1,11 +1,11 @@
-ghost use Rattle.std.specs.Prelude.{◌≡◌, ◌<◌, ◌↔◌, ◌+◌, ◌*◌, ◌++◌, ◌∷◌, [], length, IfOk, IfSome, IsNone};
+ghost use Rattle.std.specs.Prelude.{◌≡◌, ◌<◌, ◌↔◌, ◌+◌, ◌*◌, ◌++◌, ◌∷◌, [], length, replicate, IfOk, IfSome, IsNone};
 ghost use Rattle.std.specs.Borrow.{sem};
 ghost use Rattle.pie_core.specs.LocalCalls.{new_local, loaded, settled, with_value, with_waiting, TakesOldest};
 ghost use Rattle.pie_core.specs.LocalLends.{LendsCounters};
 
 use crate::worklist::Worklist;
-use graph_core::Fragment;
 use grape_port::NoMemory;
+use graph_core::Fragment;
 use std::alloc::Global;
 use std::marker::Model;
 

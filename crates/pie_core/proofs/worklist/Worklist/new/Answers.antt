@@ -1,6 +1,5 @@
-use Rattle.std.proofs.Common.{◌≡◌, List, [], replicate, false, arith, rules}
+use Rattle.std.proofs.Common.{◌≡◌, [], replicate, false, arith, rules}
 use Rattle.std.specs.VecDeque.{deque_capacity}
-use Rattle.pie_core.specs.PlaceLists.{IsKept}
 use Rattle.pie_core.proofs.Places.{kept_new}
 use Rattle.pie_core.proofs.worklist.Worklist.new.Goals as goal
 

@@ -1,4 +1,4 @@
-use Rattle.std.proofs.Common.{◌≡◌, ◌<◌, List, length, get_or, false, arith, ap, vec_len}
+use Rattle.std.proofs.Common.{◌≡◌, ◌<◌, length, get_or, false, arith, ap, vec_len}
 use Rattle.std.specs.VecDeque.{deque_capacity}
 use Rattle.pie_core.specs.PlaceLists.{PlaceList}
 use Rattle.pie_core.proofs.Places.{kept_push, room_left}
