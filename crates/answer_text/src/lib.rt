@@ -6,6 +6,8 @@
 
 mod answer;
 mod piece;
+#[cfg(test)]
+mod tests;
 mod worked;
 mod write;
 
