@@ -4,6 +4,7 @@
 mod fault;
 mod laws;
 mod line_reader;
+mod statement;
 mod worked;
 
 pub use fault::{TextFault, Why};
