@@ -1,3 +1,8 @@
+ghost use Rattle.std.specs.Prelude.{◌≡◌};
+ghost use Rattle.graph_text.specs.Lines.{words_of};
+ghost use Rattle.graph_text.specs.Statements.{statement_of};
+
+use crate::fault::Why;
 use graph_core::Edge;
 
 /// What a query line asks for.
@@ -16,4 +21,10 @@ pub enum Statement {
     Joins(Edge),
     /// The query.
     Asks(Question),
+}
+
+pub(crate) fn statement_in(line: &[u8]) -> Result<Statement, Why>
+    ensures { result ≡ statement_of (words_of line.now) }
+{
+    Err(Why::Word)
 }
