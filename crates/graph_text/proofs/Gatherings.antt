@@ -13,10 +13,11 @@ use Rattle.graph_core.specs.declared.edge.Edge.{Edge}
 use Rattle.graph_core.specs.Graphs.{MAX_VERTICES, MAX_EDGES}
 use Rattle.graph_text.specs.declared.fault.Why.TheVariants as causes
 use Rattle.graph_text.specs.declared.statement.Question.{Question}
+use Rattle.graph_text.specs.declared.statement.Question.TheVariants.{Distances}
 use Rattle.graph_text.specs.declared.statement.Statement.{Statement}
 use Rattle.graph_text.specs.declared.statement.Statement.TheVariants.{Nothing, Joins, Asks}
 use Rattle.graph_text.specs.ReaderState.{GatheredState}
-use Rattle.graph_text.specs.Input.{insert_number, vertex_numbers, repeats, is_edge, are_too_many, cause_among, first_of, question_in, edge_in}
+use Rattle.graph_text.specs.Input.{insert_number, vertex_numbers, repeats, is_edge, are_too_many, cause_among, first_of, question_in, edge_in, missing_for}
 use Rattle.graph_text.specs.Gathering.{DoRise, AreNumbers, Holds}
 use Rattle.graph_text.proofs.Jobs.{do_rise-insert, count_edges}
 use Rattle.graph_text.proofs.Numbers.{is_among, insert-kept, insert-new, numbers-push}
@@ -169,3 +170,8 @@ holds-joins g after ss edge h query edges numbers few = record {
   numbers = numbers;
   few = few;
 }
+
+-- What a query lacks.
+
+pub missing : (b : Bool) (q : Question) (n : ℕ) (ss : List Statement) → q ≡ Distances n → is_among n (vertex_numbers ss) ≡ b → cond b None (Some causes.NoSource) ≡ missing_for ss q
+missing b q n ss e h = subst (λ r. cond b None (Some causes.NoSource) ≡ missing_for ss r) (sym e) (ap (λ c. cond c None (Some causes.NoSource)) (sym h))

@@ -113,6 +113,11 @@ shown-alone front = ap (first_bad cause_shown []) (lines-alone front) ∙ first_
 none_of_whole : (front : List ℕ) → shown_of front ≡ None → first_bad cause_shown [] (whole_lines front) ≡ None
 none_of_whole front h = none_left (first_bad cause_shown [] (whole_lines front)) (first_bad cause_shown (whole_lines front) (lines_of (last_line front))) (sym (shown-alone front) ∙ h)
 
+-- where nothing is shown, the last line shows nothing
+pub none_of_last : (front : List ℕ) → shown_of front ≡ None → first_bad cause_shown (whole_lines front) (lines_of (last_line front)) ≡ None
+none_of_last front h =
+    ap (λ o. option_or o (first_bad cause_shown (whole_lines front) (lines_of (last_line front)))) (sym (none_of_whole front h)) ∙ sym (shown-alone front) ∙ h
+
 -- where nothing is shown, no whole line is bad
 pub none_bad : (front : List ℕ) → shown_of front ≡ None → first_bad cause_of [] (whole_lines front) ≡ None
 none_bad front h = sym (first_bad-ended [] (whole_lines front) (whole_are_ended front)) ∙ none_of_whole front h
@@ -145,10 +150,10 @@ open_step : (c d : Bool) (o : Option Why) → c ≡ false → cond (c || d) (con
 open_step c true o e = rw e refl
 open_step c false o e = rw e refl
 
-cause-open : (before : List (List ℕ)) (line : List ℕ) → HasNoLineFeed line → cause_shown before line ≡ too_long_cause (is_too_long before line)
+pub cause-open : (before : List (List ℕ)) (line : List ℕ) → HasNoLineFeed line → cause_shown before line ≡ too_long_cause (is_too_long before line)
 cause-open before line h = open_step (is_ended line) (is_too_long before line) _ (not_ended line h)
 
-lines-open : (line : List ℕ) → HasNoLineFeed line → 0 < length line → lines_of line ≡ line ∷ []
+pub lines-open : (line : List ℕ) → HasNoLineFeed line → 0 < length line → lines_of line ≡ line ∷ []
 lines-open [] h n = absurd (omega (arith, n))
 lines-open (b ∷ line) h n = lines_one b line h
 

@@ -1,7 +1,8 @@
-ghost use Rattle.std.specs.Prelude.{◌≡◌, ℕ, ◌+◌, List, [], ◌∷◌, ◌++◌, length, map, filter_map, Ok, option_map, OnOk, IfOk, IfErr};
+ghost use Rattle.std.specs.Prelude.{◌≡◌, ℕ, ◌+◌, nat_eq, List, [], ◌∷◌, ◌++◌, length, map, filter_map, Ok, option_map, OnOk, IfOk, IfErr};
+ghost use Rattle.std.specs.List.{IsDistinct};
 ghost use Rattle.graph_core.specs.Graphs.{IsJob, MakeGraph, graph_of};
 ghost use Rattle.graph_text.specs.declared.statement.Statement.{Statement as Said};
-ghost use Rattle.graph_text.specs.Input.{bad, insert_number, cause_among, statements_of, first_bad, cause_of, job_of_lines, vertices_of, edge_in, IsBuilt};
+ghost use Rattle.graph_text.specs.Input.{bad, insert_number, cause_among, statements_of, first_bad, cause_of, job_of_lines, vertices_of, query_of, missing_for, edge_in, IsBuilt};
 ghost use Rattle.graph_text.specs.ReaderState.{gathered_state};
 ghost use Rattle.graph_text.specs.Gathering.{Holds, AreNumbers};
 ghost use Rattle.graph_text.specs.Reader.{Answers, Gives};
@@ -83,16 +84,15 @@ impl Gathered {
         ensures job { IfOk result IsJob }
         ensures built { IfOk result (λ job. IsBuilt job.query) }
     {
-        let Some(Question::Distances(source)) = self.query else {
+        let Some(question) = self.query else {
             let why = Why::NoQuery;
             return Err(TextFault::Bad { line, why });
         };
-        if !self.numbers.contains(&source) {
-            let why = Why::NoSource;
+        if let Some(why) = self.missing_for(question) {
             return Err(TextFault::Bad { line, why });
         }
         let graph = self.graph()?;
-        let query = Query::Dist(source);
+        let query = query_of(question);
         let settings = Settings {
             fragments: 1,
             lanes: 1,
@@ -107,6 +107,19 @@ impl Gathered {
         })
     }
 
+    /// What the query needs and the lines lack.
+    fn missing_for(&self, question: Question) -> Option<Why>
+        ensures { (ss : List Said) → Holds (gathered_state self.now) ss → result ≡ missing_for ss question }
+    {
+        let source = source_of(question);
+        if self.numbers.contains(&source) {
+            None
+        } else {
+            Some(Why::NoSource)
+        }
+    }
+
+    /// The graph of the edges.
     fn graph(&self) -> Result<Graph, TextFault>
         requires { (ss : List Said) × Holds (gathered_state self.now) ss × MakeGraph (vertices_of ss) (filter_map edge_in ss) }
         ensures ok { IfOk result (λ graph. (ss : List Said) → Holds (gathered_state self.now) ss → graph ≡ graph_of (vertices_of ss) (filter_map edge_in ss)) }
@@ -129,14 +142,42 @@ fn add_number(numbers: &mut HashSet<u32>, number: u32) -> Result<(), TextFault>
     Ok(())
 }
 
+/// The vertex that a question names.
+fn source_of(question: Question) -> u32
+    ensures { question ≡ Question.Distances result }
+{
+    match question {
+        Question::Distances(source) => source,
+    }
+}
+
+/// The query that a question asks.
+fn query_of(question: Question) -> Query
+    ensures { result ≡ query_of question }
+{
+    match question {
+        Question::Distances(source) => Query::Dist(source),
+    }
+}
+
 /// The numbers in rising order.
 fn sorted_numbers(alloc: Global, numbers: &HashSet<u32>) -> Result<Vec<u32>, TextFault>
     ensures ok { IfOk result (λ sorted. (ns : List ℕ) → AreNumbers numbers.now.keys ns → sorted.items ≡ ns) }
     ensures err { IfErr result (λ fault. fault ≡ TextFault.NoMemory) }
 {
-    let mut sorted: Vec<u32> = numbers.iter().copied().collect(alloc)?;
+    let mut sorted = listed(alloc, numbers)?;
     sorted.sort_unstable();
     Ok(sorted)
+}
+
+/// The numbers of a set.
+fn listed(alloc: Global, numbers: &HashSet<u32>) -> Result<Vec<u32>, TextFault>
+    ensures all { IfOk result (λ list. list.items ≡ numbers.now.keys) }
+    ensures each_once { IfOk result (λ list. IsDistinct nat_eq list.items) }
+    ensures err { IfErr result (λ fault. fault ≡ TextFault.NoMemory) }
+{
+    let list = numbers.iter().copied().collect(alloc)?;
+    Ok(list)
 }
 
 /// The vertices with these numbers and the label 0.

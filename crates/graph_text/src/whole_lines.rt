@@ -116,8 +116,9 @@ impl WholeLines {
 fn length_before_line_feed(line: &[u8]) -> usize
     ensures { result ≡ length (before_line_feed line.now) }
 {
-    match line {
-        [.., b'\n'] => line.len() - 1,
-        _ => line.len(),
+    if !line.is_empty() && line[line.len() - 1] == b'\n' {
+        line.len() - 1
+    } else {
+        line.len()
     }
 }
