@@ -1,18 +1,25 @@
-//! Graphs, queries and jobs; the equations of a query; the fragments of a graph.
+//! Graphs, queries and jobs, the equations of a query, and the fragments of a graph.
+//!
+//! It promises that a graph holds exactly the vertices and edges that it was built from, in order, that
+//! the equations of each query have one greatest solution, and that this is what the query asks for. The
+//! readers of text stand above it, and so does all that evaluates: they share its definitions.
 #![tactic(auto)]
 
+mod copies;
 mod edge;
 mod fragment;
 mod graph;
 mod job;
 mod laws;
+mod numbering;
 mod pattern;
 mod query;
+mod row_table;
 mod settings;
 mod worked;
 
 pub use edge::Edge;
-pub use fragment::{Fragment, Reading, Route};
+pub use fragment::{Fragment, FragmentParts, Reading, Route};
 pub use graph::Graph;
 pub use job::Job;
 pub use laws::{
@@ -22,8 +29,9 @@ pub use laws::{
 };
 pub use pattern::{Pattern, PatternLink, PatternNode};
 pub use query::Query;
+pub use row_table::Rows;
 pub use settings::{Cut, Policy, Settings};
 pub use worked::{row_values, rows};
 
-/// Stands for a vertex that no walk leads to.
+/// The distance of a vertex that no walk leads to, 2^52: every distance along a walk is smaller.
 pub const FAR: u64 = 4_503_599_627_370_496;

@@ -8,6 +8,7 @@ mod line_reader;
 mod open_text;
 mod statement;
 mod whole_lines;
+mod words;
 mod worked;
 
 pub use fault::{TextFault, Why};

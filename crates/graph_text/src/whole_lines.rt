@@ -3,7 +3,7 @@ ghost use Rattle.graph_text.specs.Lines.{lines_of, before_line_feed, HasNoLineFe
 
 use crate::fault::{TextFault, Why};
 use crate::gathered::Gathered;
-use crate::statement::{Statement, statement_in};
+use crate::statement::{Statement, read_statement};
 use graph_core::Job;
 use std::alloc::Global;
 
@@ -63,7 +63,7 @@ impl WholeLines {
         if self.is_too_long(length_before_line_feed(line), line.len()) {
             return Err(self.too_long());
         }
-        match statement_in(line) {
+        match read_statement(line) {
             Ok(statement) => self.add(line.len(), statement),
             Err(why) => {
                 let line = self.count + 1;

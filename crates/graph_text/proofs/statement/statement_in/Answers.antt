@@ -1,4 +1,0 @@
-use Rattle.graph_text.proofs.statement.statement_in.Goals as goal
-
-pub returns : goal.returns
-returns c = ?
