@@ -7,6 +7,7 @@ mod mem_source;
 mod number;
 mod sink;
 mod source;
+mod whole;
 
 pub use faults::{Failed, NoMemory};
 pub use mem_sink::MemSink;
@@ -14,3 +15,4 @@ pub use mem_source::MemSource;
 pub use number::read_number;
 pub use sink::Sink;
 pub use source::Source;
+pub use whole::write_all;
