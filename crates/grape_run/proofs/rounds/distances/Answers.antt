@@ -1,4 +1,4 @@
-use Rattle.std.proofs.Common.{◌≡◌, ℕ, [], ◌∷◌, length, sym, subst, arith, slice_index}
+use Rattle.std.proofs.Common.{[], ◌∷◌, sym, subst, arith, slice_index}
 use Rattle.graph_core.specs.Meaning.{IsDistance}
 use Rattle.grape_run.specs.Rounds.{IsUnderWay}
 use Rattle.grape_run.proofs.Lowering.{under_way-relaxed, written_back}
@@ -12,5 +12,5 @@ returns-clause-values c =
     let way : IsUnderWay g from last = c.loop-test.ensures.under_way c.args.source (subst (IsUnderWay g from) (sym c.deref_mut.ensures.value) c.loop.invariant.under_way) in
     let relaxed = under_way-relaxed g from last c.loop-test.ensures.lowered way in
     λ v l.
-      subst (λ values. IsDistance g from v (slice_index values v)) (sym (written_back c.loop.values.len last c.loop.values.items (omega (arith, c.lower_edges.auto.values, c.deref_mut.ensures.len))))
-      (c.relaxed_weights_are_distances.ensures g from (slice_index last) c.requires relaxed v l (way.weights v l))
+    subst (λ values. IsDistance g from v (slice_index values v)) (sym (written_back c.loop.values.len last c.loop.values.items (omega (arith, c.lower_edges.auto.values, c.deref_mut.ensures.len))))
+    (c.relaxed_weights_are_distances.ensures g from (slice_index last) c.requires relaxed v l (way.weights v l))

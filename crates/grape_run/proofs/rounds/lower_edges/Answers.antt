@@ -1,4 +1,4 @@
-use Rattle.std.proofs.Common.{◌≡◌, ◌<◌, Bool, true, false, List, [], ◌∷◌, length, sym, ◌∙◌, arith, subst, ap, sum, slice_index, slice_index_or}
+use Rattle.std.proofs.Common.{◌≡◌, ◌<◌, true, false, [], ◌∷◌, length, sym, ◌∙◌, arith, subst, ap, sum, slice_index, slice_index_or}
 use Rattle.graph_core.specs.declared.edge.Edge.{Edge}
 use Rattle.grape_run.specs.Rounds.{IsUnderWay, Lowers, IsHeld}
 use Rattle.grape_run.proofs.Lowering.{edge_in, ends_in, lowered-at_most, lowered-sum, lowered-under_way, held-more}
