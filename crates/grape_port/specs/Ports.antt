@@ -1,5 +1,9 @@
 -- What a call does to the bytes of a source or a sink. A source or sink of the outside world tells no bytes.
-use Rattle.std.specs.Prelude.{◌≡◌, ℕ, ◌-◌, ◌^◌, ◌<◌, ◌⊎◌, List, [], ◌++◌, Option, Some, None, length, ⊤}
+use Rattle.std.specs.Prelude.{◌≡◌, ℕ, ◌+◌, ◌-◌, ◌^◌, ◌<◌, min, ◌⊎◌, List, [], ◌++◌, Option, Some, None, length, ⊤}
+
+-- A count, one higher. It is kept in 64 bits, and its last number stands for any more.
+abbrev pub one_more : ℕ → ℕ
+one_more n = min (n + 1) (2 ^ 64 - 1)
 
 -- A count of faults rose. It is kept in 64 bits, and so a count at its last number may stand for any more.
 abbrev pub Rose : ℕ → ℕ → Type 0

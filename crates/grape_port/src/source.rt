@@ -4,6 +4,9 @@ ghost use Rattle.grape_port.specs.Ports.{Rose, TakesFront, IsAtEnd};
 use crate::faults::Failed;
 
 /// Bytes to read, from the first to the last.
+///
+/// A source may tell which bytes are left, or not, as standard input. Its count of failed calls
+/// never falls, and stands still at `u64::MAX`.
 pub trait Source {
     /// The bytes that are not yet read, where the source tells them.
     ghost left: { Self → Option (List ℕ) };
@@ -11,7 +14,9 @@ pub trait Source {
     /// How many calls have failed.
     ghost faults: { Self → ℕ };
 
-    /// Moves bytes from the front of what is left to the front of `to`, and answers how many.
+    /// Moves bytes from the front of what is left to the front of `to`, and answers how many: with
+    /// room, none only at the end. `Failed` comes only where the count of faults rose, and then
+    /// nothing was moved; what stands in `to` is then not said.
     fn read(&mut self, to: &mut [u8]) -> Result<usize, Failed>
         ensures count { IfOk result (λ n. n ≤ length to.old) }
         ensures moved { IfOk result (λ n. TakesFront (left self.old) (take n to.new) (left self.new)) }

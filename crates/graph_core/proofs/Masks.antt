@@ -9,7 +9,8 @@ use Rattle.std.proofs.lemmas.Nat.Bits.{bit_at_cat_low, bit_at_cat_high, bit_at_a
 use Rattle.std.specs.Int.RustNames.{bit_or}
 use Rattle.std.proofs.Common.{w64}
 use Rattle.value_order.specs.declared.order.Order.TheVariants.{Mask}
-use Rattle.value_order.specs.Order.{Below, NOTHING}
+use Rattle.value_order.specs.Order.{Below}
+use Rattle.value_order.specs.declared.TheConstants.{NOTHING}
 use Rattle.value_order.proofs.Orders.{mask-below}
 use Rattle.graph_core.specs.Queries.{mask_below, mask_of}
 

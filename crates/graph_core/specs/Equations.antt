@@ -1,7 +1,8 @@
 -- Systems of equations between the values of vertices, and their greatest solution.
 use Rattle.std.specs.Prelude.{◌≡◌, ℕ, ◌<◌, List, Contains}
 use Rattle.value_order.specs.declared.order.Order.{Order}
-use Rattle.value_order.specs.Order.{Below, NOTHING}
+use Rattle.value_order.specs.Order.{Below}
+use Rattle.value_order.specs.declared.TheConstants.{NOTHING}
 
 -- A value for each vertex, by its index. What it gives other numbers doesn't matter.
 abbrev pub Assignment : Type 0

@@ -1,13 +1,18 @@
-ghost use Rattle.std.specs.Prelude.{◌≡◌, ◌<◌, IfOk};
-ghost use Rattle.graph_core.specs.Graphs.{count_of, number_at, label_at, IsGraph, MakeGraph, graph_of};
-ghost use Rattle.graph_core.specs.Digraph.{Digraph};
-ghost use Rattle.graph_core.specs.declared.edge.Edge.{Edge};
+ghost use Rattle.std.specs.Prelude.{◌≡◌, ◌≢◌, ◌<◌, ℕ, IfOk, IfNone, IfSome};
+ghost use Rattle.graph_core.specs.Digraph.{count_of, number_at, label_at, index_of, IsGraph, MakeGraph, graph_of};
 
+use crate::copies::copy_of;
 use crate::edge::Edge;
+use crate::numbering::{edges_by_index, place_of};
 use grape_port::NoMemory;
 use std::alloc::Global;
 use std::marker::Model;
 
+/// A directed graph within the engine's limits: at most 1,000,000 vertices and 4,000,000 edges, and
+/// numbers, labels and weights below 2^32.
+///
+/// Vertices stand in rising order of their numbers, and the index of a vertex is its place there, from 0.
+/// A graph takes 8 bytes a vertex and 12 bytes an edge.
 #[derive(Drop)]
 pub struct Graph {
     vertices: Vec<(u32, u32)>,
@@ -15,29 +20,42 @@ pub struct Graph {
 }
 
 impl Model for Graph {
-    ghost use Rattle.graph_core.specs.Digraph.{Digraph};
+    ghost use Rattle.graph_core.specs.Digraph.{Digraph, IsGraph};
 
     ghost Value = { Digraph };
 
     ghost view = { λ g. record { vertices = g.vertices.items; edges = g.edges.items } };
+
+    ghost invariant = { λ g. IsGraph (record { vertices = g.vertices.items; edges = g.edges.items }) };
 }
 
 impl Graph {
-    /// The graph of these vertices, and of these edges between their numbers.
+    /// The graph of these vertices, pairs of number and label, and of these edges between their numbers.
+    ///
+    /// It takes the time of a look-up for each end of an edge and of one sort of the edges.
     pub fn build(alloc: Global, vertices: &[(u32, u32)], edges: &[Edge]) -> Result<Graph, NoMemory>
         requires { MakeGraph vertices.now edges.now }
-        ensures { IfOk result (λ graph. graph ≡ graph_of vertices.now edges.now) }
+        ensures exact { IfOk result (λ graph. graph ≡ graph_of vertices.now edges.now) }
+        ensures made { IfOk result IsGraph }
     {
-        Err(NoMemory)
+        let mut placed = edges_by_index(alloc, vertices, edges)?;
+        placed.sort_unstable();
+        let vertices = copy_of(alloc, vertices)?;
+        Ok(Graph {
+            vertices,
+            edges: placed,
+        })
     }
 
+    /// How many vertices the graph has, at most 1,000,000.
     pub fn count(&self) -> u32
-        requires { IsGraph self.now }
-        ensures { result ≡ count_of self.now }
+        ensures count { result ≡ count_of self.now }
+        ensures graph { IsGraph self.now }
     {
         self.vertices.len() as u32
     }
 
+    /// The number of the vertex with this index.
     pub fn id(&self, index: u32) -> u32
         requires { index < count_of self.now }
         ensures { result ≡ number_at self.now index }
@@ -45,6 +63,7 @@ impl Graph {
         self.vertices[index as usize].0
     }
 
+    /// The label of the vertex with this index.
     pub fn label(&self, index: u32) -> u32
         requires { index < count_of self.now }
         ensures { result ≡ label_at self.now index }
@@ -52,9 +71,29 @@ impl Graph {
         self.vertices[index as usize].1
     }
 
+    /// The index of the vertex with this number, and None exactly where no vertex has it.
+    pub fn index_of(&self, id: u32) -> Option<u32>
+        ensures exact { result ≡ index_of self.now id }
+        ensures found { IfSome result (λ index. (index < count_of self.now) × (number_at self.now index ≡ id)) }
+        ensures absent { IfNone result ((v : ℕ) → v < count_of self.now → number_at self.now v ≢ id) }
+    {
+        place_of(&self.vertices, id)
+    }
+
+    /// The edges, with indexes for their ends: each as often as it was given, sorted by from, to and weight.
     pub fn edges(&self) -> &[Edge]
-        ensures { result.now ≡ self.now.edges }
+        ensures edges { result.now ≡ self.now.edges }
+        ensures graph { IsGraph self.now }
     {
         &self.edges
+    }
+
+    /// An equal graph.
+    pub(crate) fn copy(&self, alloc: Global) -> Result<Graph, NoMemory>
+        ensures { IfOk result (λ copy. copy ≡ self.now) }
+    {
+        let vertices = copy_of(alloc, &self.vertices)?;
+        let edges = copy_of(alloc, &self.edges)?;
+        Ok(Graph { vertices, edges })
     }
 }

@@ -1,18 +1,21 @@
 //! Graphs, queries and jobs; the equations of a query; the fragments of a graph.
 #![tactic(auto)]
 
+mod copies;
 mod edge;
 mod fragment;
 mod graph;
 mod job;
 mod laws;
+mod numbering;
 mod pattern;
 mod query;
+mod row_table;
 mod settings;
 mod worked;
 
 pub use edge::Edge;
-pub use fragment::{Fragment, Reading, Route};
+pub use fragment::{Fragment, FragmentParts, Reading, Route};
 pub use graph::Graph;
 pub use job::Job;
 pub use laws::{
@@ -22,6 +25,7 @@ pub use laws::{
 };
 pub use pattern::{Pattern, PatternLink, PatternNode};
 pub use query::Query;
+pub use row_table::Rows;
 pub use settings::{Cut, Policy, Settings};
 pub use worked::{row_values, rows};
 

@@ -8,7 +8,8 @@ use Rattle.std.proofs.lemmas.List.Elements.{filter_map-append}
 use Rattle.graph_text.specs.declared.fault.Why.{Why}
 use Rattle.graph_text.specs.declared.fault.Why.TheVariants as causes
 use Rattle.graph_text.specs.Lines.{words_of, is_too_long}
-use Rattle.graph_text.specs.Statements.{Statement, statement_of}
+use Rattle.graph_text.specs.declared.statement.Statement.{Statement}
+use Rattle.graph_text.specs.Statements.{statement_of}
 use Rattle.graph_text.specs.Input.{BadLine, bad, statements_of, repeats, are_too_many, cause_among, cause_of, first_bad}
 use Rattle.graph_text.proofs.Ranges.{InRange, ok_in_range}
 

@@ -5,31 +5,21 @@ use Rattle.std.specs.List.{AllByRecursion}
 use Rattle.std.proofs.lemmas.Bool.Decides.{nat_tests}
 use Rattle.std.proofs.lemmas.Option.{same_Some}
 use Rattle.grape_port.specs.Decimal.{number_of}
-use Rattle.graph_core.specs.declared.settings.Policy.TheVariants as policy
-use Rattle.graph_core.specs.declared.settings.Cut.TheVariants as cut
-use Rattle.graph_core.specs.Graphs.{IsPolicy}
 use Rattle.graph_text.specs.declared.fault.Why.{Why}
 use Rattle.graph_text.specs.declared.fault.Why.TheVariants as causes
-use Rattle.graph_text.specs.Statements.{Question, distances, labels, reached, simulation, Statement, nothing, edge, vertex, asks, node, link, fragments, lanes, snapshot, cuts, follows, Range, is_in, are_in, word32, node_number, lead, batches, cons_number, numbers_of, statement_in, made_of, first, second, Form, completed, statement_by, edge_form, one_word_forms, query_forms, cut_forms, policy_forms, second_word_forms, statement_if, statement_among, keyword_statement, begins_with_digit, is_comment, statement_of}
+use Rattle.graph_text.specs.declared.statement.Question.{Question}
+use Rattle.graph_text.specs.declared.statement.Question.TheVariants.{Distances}
+use Rattle.graph_text.specs.declared.statement.Statement.{Statement}
+use Rattle.graph_text.specs.declared.statement.Statement.TheVariants.{Nothing, Joins, Asks}
+use Rattle.graph_text.specs.Statements.{Range, is_in, are_in, word32, cons_number, numbers_of, statement_in, made_of, first, Form, completed, statement_by, edge_form, one_word_forms, query_forms, second_word_forms, statement_if, statement_among, keyword_statement, begins_with_digit, is_comment, statement_of}
 
 abbrev pub AsksInRange : Question → Type 0
-AsksInRange (distances source) = source < 2 ^ 32
-AsksInRange labels = ⊤
-AsksInRange (reached source) = source < 2 ^ 32
-AsksInRange simulation = ⊤
+AsksInRange (Distances source) = source < 2 ^ 32
 
 abbrev pub InRange : Statement → Type 0
-InRange nothing = ⊤
-InRange (edge from to weight) = (from < 2 ^ 32) × (to < 2 ^ 32) × (weight < 2 ^ 32)
-InRange (vertex number label) = (number < 2 ^ 32) × (label < 2 ^ 32)
-InRange (asks q) = AsksInRange q
-InRange (node number label) = (number < 64) × (label < 2 ^ 32)
-InRange (link from to) = (from < 64) × (to < 64)
-InRange (fragments n) = (1 ≤ n) × (n ≤ 64)
-InRange (lanes n) = (1 ≤ n) × (n ≤ 16)
-InRange (snapshot n) = n < 2 ^ 32
-InRange (cuts c) = ⊤
-InRange (follows p) = IsPolicy p
+InRange Nothing = ⊤
+InRange (Joins edge) = (edge.from < 2 ^ 32) × (edge.to < 2 ^ 32) × (edge.weight < 2 ^ 32)
+InRange (Asks q) = AsksInRange q
 
 pub OkInRange : Result Statement Why → Type 0
 OkInRange r = IfOk r InRange
@@ -77,26 +67,11 @@ and_right true b h = h
 and_right false b h = absurd (let x : false ≡ true = h in cc)
 
 -- what the numbers of a statement are known by
-makes_none : (make : List ℕ → Statement) → InRange (make []) → Makes [] make
-unfolding Makes
-makes_none make h [] l e = h
-makes_none make h (n ∷ ns) l e = absurd (let x : suc (length ns) ≡ 0 = l in omega (arith, x))
-
 makes_one : (r : Range) (make : List ℕ → Statement) → ((n : ℕ) → r.low ≤ n → n ≤ r.high → InRange (make (n ∷ []))) → Makes (r ∷ []) make
 unfolding Makes
 makes_one r make h [] l e = absurd (let x : 0 ≡ 1 = l in omega (arith, x))
 makes_one r make h (n ∷ []) l e = let i : (r.low ≤ n) × (n ≤ r.high) = in_range r n (and_left (is_in r n) true e) in h n i.0 i.1
 makes_one r make h (n ∷ m ∷ ns) l e = absurd (let x : suc (suc (length ns)) ≡ 1 = l in omega (arith, x))
-
-makes_two : (r s : Range) (make : List ℕ → Statement) → ((n m : ℕ) → r.low ≤ n → n ≤ r.high → s.low ≤ m → m ≤ s.high → InRange (make (n ∷ m ∷ []))) → Makes (r ∷ s ∷ []) make
-unfolding Makes
-makes_two r s make h [] l e = absurd (let x : 0 ≡ 2 = l in omega (arith, x))
-makes_two r s make h (n ∷ []) l e = absurd (let x : 1 ≡ 2 = l in omega (arith, x))
-makes_two r s make h (n ∷ m ∷ []) l e =
-    let i : (r.low ≤ n) × (n ≤ r.high) = in_range r n (and_left (is_in r n) (is_in s m && true) e)
-    in let j : (s.low ≤ m) × (m ≤ s.high) = in_range s m (and_left (is_in s m) true (and_right (is_in r n) (is_in s m && true) e))
-    in h n m i.0 i.1 j.0 j.1
-makes_two r s make h (n ∷ m ∷ k ∷ ns) l e = absurd (let x : suc (suc (suc (length ns))) ≡ 2 = l in omega (arith, x))
 
 makes_three : (r s t : Range) (make : List ℕ → Statement)
     → ((n m k : ℕ) → r.low ≤ n → n ≤ r.high → s.low ≤ m → m ≤ s.high → t.low ≤ k → k ≤ t.high → InRange (make (n ∷ m ∷ k ∷ []))) → Makes (r ∷ s ∷ t ∷ []) make
@@ -119,59 +94,8 @@ FormMakes form = Makes form.ranges form.says
 edge_makes : FormMakes edge_form
 edge_makes = makes_three word32 word32 word32 edge_form.says (λ n m k a b c d e f. (omega (arith, b), omega (arith, d), omega (arith, f)))
 
-one_words_make : AllByRecursion FormMakes one_word_forms
-one_words_make = (
-  makes_two word32 word32 (λ ns. vertex (first ns) (second ns)) (λ n m a b c d. (omega (arith, b), omega (arith, d))),
-  (
-    makes_two node_number word32 (λ ns. node (first ns) (second ns)) (λ n m a b c d. (omega (arith, b), omega (arith, d))),
-    (
-      makes_two node_number node_number (λ ns. link (first ns) (second ns)) (λ n m a b c d. (omega (arith, b), omega (arith, d))),
-      (
-        makes_one (record { low = 1; high = 64 }) (λ ns. fragments (first ns)) (λ n a b. (a, b)),
-        (
-          makes_one (record { low = 1; high = 16 }) (λ ns. lanes (first ns)) (λ n a b. (a, b)),
-          (
-            makes_one word32 (λ ns. snapshot (first ns)) (λ n a b. omega (arith, b)),
-            tt,
-          ),
-        ),
-      ),
-    ),
-  ),
-)
-
 queries_make : AllByRecursion FormMakes query_forms
-queries_make = (
-  makes_one word32 (λ ns. asks (distances (first ns))) (λ n a b. omega (arith, b)),
-  (
-    makes_none (λ ns. asks labels) tt,
-    (
-      makes_one word32 (λ ns. asks (reached (first ns))) (λ n a b. omega (arith, b)),
-      (
-        makes_none (λ ns. asks simulation) tt,
-        tt,
-      ),
-    ),
-  ),
-)
-
-cuts_make : AllByRecursion FormMakes cut_forms
-cuts_make = (makes_none (λ ns. cuts cut.Range) tt, (makes_none (λ ns. cuts cut.Hash) tt, tt))
-
-policies_make : AllByRecursion FormMakes policy_forms
-policies_make = (
-  makes_none (λ ns. follows policy.Bsp) tt,
-  (
-    makes_none (λ ns. follows policy.Ap) tt,
-    (
-      makes_one lead (λ ns. follows (policy.Ssp (first ns))) (λ n a b. b),
-      (
-        makes_two lead batches (λ ns. follows (policy.Aap (first ns) (second ns))) (λ n m a b c d. (b, c, d)),
-        tt,
-      ),
-    ),
-  ),
-)
+queries_make = (makes_one word32 (λ ns. Asks (Distances (first ns))) (λ n a b. omega (arith, b)), tt)
 
 found_step : (c : Bool) (form : Form) (o : Option Form) (words : List (List ℕ)) → FormMakes form → OkInRange (statement_if o words) → OkInRange (statement_if (cond c (Some form) o) words)
 found_step true form o words h k = made_ok form.ranges form.says (completed form.last (length form.ranges) words) h
@@ -187,18 +111,15 @@ unfolding OkInRange
 among_in forms [] h = tt
 among_in forms (word ∷ words) h = found_in (λ form. bytes_eq word form.keyword) forms words h
 
-keyword_step : (b c d : Bool) (word : List ℕ) (words : List (List ℕ))
-    → OkInRange (keyword_statement (cond b (Some query_forms) (cond c (Some cut_forms) (cond d (Some policy_forms) None))) word words)
-keyword_step true c d word words = among_in query_forms words queries_make
-keyword_step false true d word words = among_in cut_forms words cuts_make
-keyword_step false false true word words = among_in policy_forms words policies_make
-keyword_step false false false word words = among_in one_word_forms (word ∷ words) one_words_make
+keyword_step : (b : Bool) (word : List ℕ) (words : List (List ℕ)) → OkInRange (keyword_statement (cond b (Some query_forms) None) word words)
+keyword_step true word words = among_in query_forms words queries_make
+keyword_step false word words = among_in one_word_forms (word ∷ words) tt
 
-line_step : (b c : Bool) (word : List ℕ) (words : List (List ℕ)) → OkInRange (cond b (Ok nothing) (cond c (statement_by edge_form (word ∷ words)) (keyword_statement (second_word_forms word) word words)))
+line_step : (b c : Bool) (word : List ℕ) (words : List (List ℕ)) → OkInRange (cond b (Ok Nothing) (cond c (statement_by edge_form (word ∷ words)) (keyword_statement (second_word_forms word) word words)))
 unfolding OkInRange
 line_step true c word words = tt
 line_step false true word words = made_ok edge_form.ranges edge_form.says (completed edge_form.last 3 (word ∷ words)) edge_makes
-line_step false false word words = keyword_step (bytes_eq word (codes "query")) (bytes_eq word (codes "cut")) (bytes_eq word (codes "policy")) word words
+line_step false false word words = keyword_step (bytes_eq word (codes "query")) word words
 
 -- what a line says has its numbers in range
 pub statement_is_in_range : (words : List (List ℕ)) → OkInRange (statement_of words)

@@ -1,25 +1,24 @@
 -- Which texts are an input, and which job each of them is.
-use Rattle.std.specs.Prelude.{ℕ, ◌+◌, ◌==◌, Bool, true, false, ◌&&◌, ◌||◌, nat_lt, if◌then◌else◌, List, [], ◌∷◌, ◌++◌, length, map, filter_map, count_by, Option, Some, None, unwrap_or, option_map, Result, Ok, Err, ⊤}
-use Rattle.std.specs.List.{list_any, list_all}
+use Rattle.std.specs.Prelude.{ℕ, ◌+◌, ◌==◌, Bool, true, false, ◌||◌, nat_lt, if◌then◌else◌, List, [], ◌∷◌, ◌++◌, length, map, filter_map, count_by, Option, Some, None, option_map, Result, Ok, Err, ⊤}
+use Rattle.std.specs.List.{list_any}
 use Rattle.std.specs.Option.{option_or}
 use Rattle.std.specs.Result.{result_ok}
 use Rattle.graph_core.specs.declared.edge.Edge.{Edge}
-use Rattle.graph_core.specs.declared.pattern.PatternNode.{PatternNode}
-use Rattle.graph_core.specs.declared.pattern.PatternLink.{PatternLink}
 use Rattle.graph_core.specs.declared.query.Query.{Query}
 use Rattle.graph_core.specs.declared.query.Query.TheVariants as query
-use Rattle.graph_core.specs.declared.settings.Cut.{Cut}
 use Rattle.graph_core.specs.declared.settings.Cut.TheVariants as cut
-use Rattle.graph_core.specs.declared.settings.Policy.{Policy}
 use Rattle.graph_core.specs.declared.settings.Policy.TheVariants as policy
 use Rattle.graph_core.specs.declared.settings.Settings.{Settings}
 use Rattle.graph_core.specs.declared.job.Job.{Job}
-use Rattle.graph_core.specs.PatternGraph.{PatternGraph}
-use Rattle.graph_core.specs.Graphs.{graph_of, MAX_VERTICES, MAX_EDGES, MAX_LINKS}
+use Rattle.graph_core.specs.Graphs.{graph_of, MAX_VERTICES, MAX_EDGES}
 use Rattle.graph_text.specs.declared.fault.Why.{Why}
 use Rattle.graph_text.specs.declared.fault.Why.TheVariants as causes
 use Rattle.graph_text.specs.Lines.{lines_of, words_of, is_ended, is_too_long}
-use Rattle.graph_text.specs.Statements.{Question, distances, labels, reached, simulation, Statement, edge, vertex, asks, node, link, fragments, lanes, snapshot, cuts, follows, statement_of}
+use Rattle.graph_text.specs.declared.statement.Question.{Question}
+use Rattle.graph_text.specs.declared.statement.Question.TheVariants.{Distances}
+use Rattle.graph_text.specs.declared.statement.Statement.{Statement}
+use Rattle.graph_text.specs.declared.statement.Statement.TheVariants.{Joins, Asks}
+use Rattle.graph_text.specs.Statements.{statement_of}
 
 -- a line by its number, from 1, and why it is bad
 pub record BadLine : Type 0 where
@@ -33,44 +32,32 @@ bad line why = record { line = line; why = why }
 abbrev pub statements_of : List (List ℕ) → List Statement
 statements_of lines = filter_map (λ line. result_ok (statement_of (words_of line))) lines
 
--- The vertices: the numbers that stand in edges and vertex lines, in rising order, each once.
+-- The vertices: the numbers that stand in edges, in rising order, each once.
 
 abbrev pub insert_number : ℕ → List ℕ → List ℕ
 insert_number n [] = n ∷ []
 insert_number n (m ∷ ms) = if nat_lt n m then n ∷ m ∷ ms else if n == m then m ∷ ms else m ∷ insert_number n ms
 
 abbrev pub numbers_with : Statement → List ℕ → List ℕ
-numbers_with (edge from to weight) ns = insert_number from (insert_number to ns)
-numbers_with (vertex number label) ns = insert_number number ns
+numbers_with (Joins edge) ns = insert_number edge.from (insert_number edge.to ns)
 numbers_with s ns = ns
 
 abbrev pub vertex_numbers : List Statement → List ℕ
 vertex_numbers [] = []
 vertex_numbers (s ∷ ss) = numbers_with s (vertex_numbers ss)
 
--- Each of these may stand on one line alone: the query, each setting, a vertex and a node of the pattern.
+-- The query may stand on one line alone.
 abbrev pub repeats : Statement → Statement → Bool
-repeats (asks q) (asks r) = true
-repeats (fragments m) (fragments n) = true
-repeats (lanes m) (lanes n) = true
-repeats (snapshot m) (snapshot n) = true
-repeats (cuts c) (cuts d) = true
-repeats (follows p) (follows q) = true
-repeats (vertex m l) (vertex n k) = m == n
-repeats (node m l) (node n k) = m == n
+repeats (Asks q) (Asks r) = true
 repeats s t = false
 
 abbrev pub is_edge : Statement → Bool
-is_edge (edge from to weight) = true
+is_edge (Joins edge) = true
 is_edge s = false
 
-abbrev pub is_link : Statement → Bool
-is_link (link from to) = true
-is_link s = false
-
--- more edges, links or vertices than there may be
+-- more edges or vertices than there may be
 abbrev pub are_too_many : List Statement → Bool
-are_too_many ss = nat_lt MAX_EDGES (count_by is_edge ss) || nat_lt MAX_LINKS (count_by is_link ss) || nat_lt MAX_VERTICES (length (vertex_numbers ss))
+are_too_many ss = nat_lt MAX_EDGES (count_by is_edge ss) || nat_lt MAX_VERTICES (length (vertex_numbers ss))
 
 -- why a line with such words is bad behind earlier statements
 abbrev pub cause_among : List Statement → Result Statement Why → Option Why
@@ -107,86 +94,31 @@ first_of what [] = None
 first_of what (s ∷ ss) = option_or (what s) (first_of what ss)
 
 abbrev pub question_in : Statement → Option Question
-question_in (asks q) = Some q
+question_in (Asks q) = Some q
 question_in s = None
 
-abbrev pub label_in : ℕ → Statement → Option ℕ
-label_in number (vertex n label) = if n == number then Some label else None
-label_in number s = None
-
 abbrev pub edge_in : Statement → Option Edge
-edge_in (edge from to weight) = Some (record { from = from; to = to; weight = weight })
+edge_in (Joins edge) = Some edge
 edge_in s = None
 
-abbrev pub node_in : Statement → Option PatternNode
-node_in (node number label) = Some (record { number = number; label = label })
-node_in s = None
+-- the settings of every job, since no line gives one yet: one fragment on one lane, and no snapshots
+abbrev pub SETTINGS : Settings
+SETTINGS = record { fragments = 1; lanes = 1; cut = cut.Hash; policy = policy.Ap; snapshot = 0 }
 
-abbrev pub link_in : Statement → Option PatternLink
-link_in (link from to) = Some (record { from = from; to = to })
-link_in s = None
-
-abbrev pub fragments_in : Statement → Option ℕ
-fragments_in (fragments n) = Some n
-fragments_in s = None
-
-abbrev pub lanes_in : Statement → Option ℕ
-lanes_in (lanes n) = Some n
-lanes_in s = None
-
-abbrev pub snapshot_in : Statement → Option ℕ
-snapshot_in (snapshot n) = Some n
-snapshot_in s = None
-
-abbrev pub cut_in : Statement → Option Cut
-cut_in (cuts c) = Some c
-cut_in s = None
-
-abbrev pub policy_in : Statement → Option Policy
-policy_in (follows p) = Some p
-policy_in s = None
-
-abbrev pub pattern_of : List Statement → PatternGraph
-pattern_of ss = record { nodes = filter_map node_in ss; links = filter_map link_in ss }
-
--- the settings, with what holds where a line is missing
-abbrev pub settings_of : List Statement → Settings
-settings_of ss = record {
-  fragments = unwrap_or (first_of fragments_in ss) 4;
-  lanes = unwrap_or (first_of lanes_in ss) 2;
-  cut = unwrap_or (first_of cut_in ss) cut.Hash;
-  policy = unwrap_or (first_of policy_in ss) (policy.Aap 4 2);
-  snapshot = unwrap_or (first_of snapshot_in ss) 0;
-}
-
--- the vertices with their labels, 0 where no line gives one
+-- the vertices with their labels, which are 0, since no line gives one yet
 abbrev pub vertices_of : List Statement → List (ℕ × ℕ)
-vertices_of ss = map (λ number. (number, unwrap_or (first_of (label_in number) ss) 0)) (vertex_numbers ss)
+vertices_of ss = map (λ number. (number, 0)) (vertex_numbers ss)
 
-abbrev pub query_of : List Statement → Question → Query
-query_of ss (distances source) = query.Dist source
-query_of ss labels = query.Label
-query_of ss (reached source) = query.Reach source
-query_of ss simulation = query.Sim (pattern_of ss)
+abbrev pub query_of : Question → Query
+query_of (Distances source) = query.Dist source
 
 abbrev pub job_of : List Statement → Question → Job
-job_of ss q = record { graph = graph_of (vertices_of ss) (filter_map edge_in ss); query = query_of ss q; settings = settings_of ss }
+job_of ss q = record { graph = graph_of (vertices_of ss) (filter_map edge_in ss); query = query_of q; settings = SETTINGS }
 
--- there is a node, and each link joins two nodes
-abbrev pub has_node_number : PatternGraph → ℕ → Bool
-has_node_number p k = list_any (λ node. node.number == k) p.nodes
-
-abbrev pub is_whole : PatternGraph → Bool
-is_whole p = nat_lt 0 (length p.nodes) && list_all (λ link. has_node_number p link.from && has_node_number p link.to) p.links
-
--- what a query needs and the lines lack: its source among the vertices, or a pattern whose links join its nodes
+-- what a query needs and the lines lack: its source among the vertices
 abbrev pub missing_for : List Statement → Question → Option Why
-missing_for ss (distances source) = if list_any (λ n. n == source) (vertex_numbers ss) then None else Some causes.NoSource
-missing_for ss labels = None
-missing_for ss (reached source) = if list_any (λ n. n == source) (vertex_numbers ss) then None else Some causes.NoSource
-missing_for ss simulation = if is_whole (pattern_of ss) then None else Some causes.NoPattern
+missing_for ss (Distances source) = if list_any (λ n. n == source) (vertex_numbers ss) then None else Some causes.NoSource
 
--- the job that good lines make, or why they make none
 -- the job that good lines make, or the cause why they make none
 abbrev pub job_unless : List Statement → Question → Option Why → Result Job Why
 job_unless ss q None = Ok (job_of ss q)

@@ -2,34 +2,11 @@
 use Rattle.std.specs.Prelude.{ℕ, ◌+◌, ◌-◌, ◌^◌, ◌==◌, Bool, false, ◌&&◌, ◌||◌, nat_le, if◌then◌else◌, List, [], ◌∷◌, ◌++◌, length, slice_index, Option, Some, None, Result, Ok, Err, codes, bytes_eq, zip, find}
 use Rattle.std.specs.List.{list_all}
 use Rattle.grape_port.specs.Decimal.{is_digit, number_of}
-use Rattle.graph_core.specs.declared.settings.Cut.{Cut}
-use Rattle.graph_core.specs.declared.settings.Cut.TheVariants as cut
-use Rattle.graph_core.specs.declared.settings.Policy.{Policy}
-use Rattle.graph_core.specs.declared.settings.Policy.TheVariants as policy
 use Rattle.graph_text.specs.declared.fault.Why.{Why}
 use Rattle.graph_text.specs.declared.fault.Why.TheVariants as causes
-
--- what a query line asks for
-pub data Question : Type 0 where
-  distances : ℕ → Question
-  labels : Question
-  reached : ℕ → Question
-  simulation : Question
-
--- what a line says: nothing, an edge by its two vertices and weight, a vertex and its label, the query, a node of the
--- pattern and its label, a link between two nodes, or a setting
-pub data Statement : Type 0 where
-  nothing : Statement
-  edge : ℕ → ℕ → ℕ → Statement
-  vertex : ℕ → ℕ → Statement
-  asks : Question → Statement
-  node : ℕ → ℕ → Statement
-  link : ℕ → ℕ → Statement
-  fragments : ℕ → Statement
-  lanes : ℕ → Statement
-  snapshot : ℕ → Statement
-  cuts : Cut → Statement
-  follows : Policy → Statement
+use Rattle.graph_text.specs.declared.statement.Question.TheVariants.{Distances}
+use Rattle.graph_text.specs.declared.statement.Statement.{Statement}
+use Rattle.graph_text.specs.declared.statement.Statement.TheVariants.{Nothing, Joins, Asks}
 
 -- the numbers from the first to the second one
 pub record Range : Type 0 where
@@ -39,12 +16,9 @@ pub record Range : Type 0 where
 abbrev pub is_in : Range → ℕ → Bool
 is_in r n = nat_le r.low n && nat_le n r.high
 
--- vertex numbers, labels, weights and periods of snapshots; and numbers of pattern nodes
+-- vertex numbers and weights
 abbrev pub word32 : Range
 word32 = record { low = 0; high = 2 ^ 32 - 1 }
-
-abbrev pub node_number : Range
-node_number = record { low = 0; high = 63 }
 
 -- the numbers that the words are, if each is one
 abbrev pub cons_number : Option ℕ → Option (List ℕ) → Option (List ℕ)
@@ -93,57 +67,29 @@ completed (Some last) count words = if length words + 1 == count then words ++ l
 abbrev pub statement_by : Form → List (List ℕ) → Result Statement Why
 statement_by form words = made_of form.ranges form.says (completed form.last (length form.ranges) words)
 
--- The tables of the keywords. A keyword that is not built yet has no row: then it is refused as an unknown word.
+-- The tables of the keywords that are built: a keyword without a row is refused as an unknown word.
 
+-- an edge: two vertices and a weight, which is 1 where it is left out
 abbrev pub edge_form : Form
-edge_form = record { keyword = []; ranges = word32 ∷ word32 ∷ word32 ∷ []; says = λ ns. edge (first ns) (second ns) (third ns); last = Some (codes "1") }
+edge_form =
+    record {
+      keyword = [];
+      ranges = word32 ∷ word32 ∷ word32 ∷ [];
+      says = λ ns. Joins (record { from = first ns; to = second ns; weight = third ns });
+      last = Some (codes "1");
+    }
 
+-- the forms that the first word names alone: none is built yet
 abbrev pub one_word_forms : List Form
-one_word_forms =
-    record { keyword = codes "v"; ranges = word32 ∷ word32 ∷ []; says = λ ns. vertex (first ns) (second ns); last = Some (codes "0") }
-    ∷ record { keyword = codes "node"; ranges = node_number ∷ word32 ∷ []; says = λ ns. node (first ns) (second ns); last = None }
-    ∷ record { keyword = codes "link"; ranges = node_number ∷ node_number ∷ []; says = λ ns. link (first ns) (second ns); last = None }
-    ∷ record { keyword = codes "fragments"; ranges = record { low = 1; high = 64 } ∷ []; says = λ ns. fragments (first ns); last = None }
-    ∷ record { keyword = codes "lanes"; ranges = record { low = 1; high = 16 } ∷ []; says = λ ns. lanes (first ns); last = None }
-    ∷ record { keyword = codes "snapshot"; ranges = word32 ∷ []; says = λ ns. snapshot (first ns); last = None }
-    ∷ []
+one_word_forms = []
 
+-- the forms that the word behind `query` names
 abbrev pub query_forms : List Form
-query_forms =
-    record { keyword = codes "dist"; ranges = word32 ∷ []; says = λ ns. asks (distances (first ns)); last = None }
-    ∷ record { keyword = codes "label"; ranges = []; says = λ ns. asks labels; last = None }
-    ∷ record { keyword = codes "reach"; ranges = word32 ∷ []; says = λ ns. asks (reached (first ns)); last = None }
-    ∷ record { keyword = codes "sim"; ranges = []; says = λ ns. asks simulation; last = None }
-    ∷ []
-
-abbrev pub cut_forms : List Form
-cut_forms =
-    record { keyword = codes "range"; ranges = []; says = λ ns. cuts cut.Range; last = None }
-    ∷ record { keyword = codes "hash"; ranges = []; says = λ ns. cuts cut.Hash; last = None }
-    ∷ []
-
--- how far a worker may be ahead, and how many batches end a delay
-abbrev pub lead : Range
-lead = record { low = 0; high = 1000000 }
-
-abbrev pub batches : Range
-batches = record { low = 1; high = 1000000 }
-
-abbrev pub policy_forms : List Form
-policy_forms =
-    record { keyword = codes "bsp"; ranges = []; says = λ ns. follows policy.Bsp; last = None }
-    ∷ record { keyword = codes "ap"; ranges = []; says = λ ns. follows policy.Ap; last = None }
-    ∷ record { keyword = codes "ssp"; ranges = lead ∷ []; says = λ ns. follows (policy.Ssp (first ns)); last = None }
-    ∷ record { keyword = codes "aap"; ranges = lead ∷ batches ∷ []; says = λ ns. follows (policy.Aap (first ns) (second ns)); last = None }
-    ∷ []
+query_forms = record { keyword = codes "dist"; ranges = word32 ∷ []; says = λ ns. Asks (Distances (first ns)); last = None } ∷ []
 
 -- the forms of the second word, behind a first word that needs one
 abbrev pub second_word_forms : List ℕ → Option (List Form)
-second_word_forms word =
-    if bytes_eq word (codes "query") then Some query_forms
-    else if bytes_eq word (codes "cut") then Some cut_forms
-    else if bytes_eq word (codes "policy") then Some policy_forms
-    else None
+second_word_forms word = if bytes_eq word (codes "query") then Some query_forms else None
 
 -- what the words say by the form that their first word names
 abbrev pub statement_if : Option Form → List (List ℕ) → Result Statement Why
@@ -169,8 +115,8 @@ is_comment (b ∷ word) = b == 35 || b == 37
 
 -- what a line of these words says, or the first cause why it says nothing
 abbrev pub statement_of : List (List ℕ) → Result Statement Why
-statement_of [] = Ok nothing
+statement_of [] = Ok Nothing
 statement_of (word ∷ words) =
-    if is_comment word then Ok nothing
+    if is_comment word then Ok Nothing
     else if begins_with_digit word then statement_by edge_form (word ∷ words)
     else keyword_statement (second_word_forms word) word words

@@ -4,6 +4,8 @@
 mod fault;
 mod laws;
 mod line_reader;
+mod statement;
+mod words;
 mod worked;
 
 pub use fault::{TextFault, Why};

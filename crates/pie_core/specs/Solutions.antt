@@ -7,6 +7,7 @@ use Rattle.graph_core.specs.declared.job.Job.{Job}
 use Rattle.graph_core.specs.Parts.{FragmentLists}
 use Rattle.graph_core.specs.Equations.{Equations, Assignment}
 use Rattle.graph_core.specs.Fragments.{fragment_of}
+use Rattle.message_buffer.specs.HandValues.{HandValues}
 use Rattle.pie_core.specs.Locals.{LocalValues}
 
 -- The values of a fragment stand in a list, one for each place: first those of the owned vertices, then those of the mirrors. This is the value that such a list gives a vertex, and 0 where no place has it.
@@ -79,9 +80,16 @@ lowered e owned xs hand = take (length owned) xs ++ met e.order (drop (length ow
 abbrev pub starts_of : Equations → List ℕ → List ℕ
 starts_of e vs = map e.start vs
 
--- the fragment is one of the job's, the values have its places and lie below the start, and there are as many counters as the program asks for
+-- the fragment is one of the job's, the values have its places and lie below the starts, and the sizes are its own and the program's
 pub record IsReadyFor (e : Equations) (job : Job) (part : FragmentLists) (local : LocalValues) (counters : ℕ) : Type 0 where
   pub number : part.number < job.settings.fragments
   pub is_part : part ≡ fragment_of job part.number
   pub below_start : AllBelow e.order local.values (starts_of e (part.owned ++ part.mirrors))
-  pub room : length local.counters ≡ counters * length part.owned
+  pub owned : length local.before ≡ length part.owned
+  pub room : length local.counters ≡ length part.owned * counters
+
+-- besides, the owned values lie below their own equations, and the hand has a value for each mirror
+pub record IsReadyAgain (e : Equations) (job : Job) (part : FragmentLists) (local : LocalValues) (counters : ℕ) (hand : HandValues) : Type 0 where
+  pub ready : IsReadyFor e job part local counters
+  pub solved : OwnEquationsHold e part.owned part.mirrors local.values
+  pub mirrors : length hand.values ≡ length part.mirrors

@@ -1,11 +1,8 @@
 -- Values of vertices, and the two orders in which they fall. A value is a number below 2 ^ 64.
-use Rattle.std.specs.Prelude.{◌≡◌, ◌≢◌, ℕ, ◌-◌, ◌^◌, ◌<◌, ◌≤◌, ◌↔◌, min, List, [], ◌∷◌, bit_and, count_ones}
+use Rattle.std.specs.Prelude.{◌≡◌, ◌≢◌, ℕ, ◌^◌, ◌<◌, ◌≤◌, ◌↔◌, min, List, [], ◌∷◌, bit_and, count_ones}
 use Rattle.value_order.specs.declared.order.Order.{Order}
 use Rattle.value_order.specs.declared.order.Order.TheVariants.{Least, Mask}
-
--- stands for no message; each value lies below it
-abbrev pub NOTHING : ℕ
-NOTHING = 2 ^ 64 - 1
+use Rattle.value_order.specs.declared.TheConstants.{NOTHING}
 
 -- the greatest value below both: the smaller one, or the bits that both have
 abbrev pub meet_of : Order → ℕ → ℕ → ℕ

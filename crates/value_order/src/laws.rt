@@ -3,7 +3,8 @@ ghost use Rattle.value_order.specs.Order.{height_of, Falls, MeetLaws};
 
 use crate::order::Order;
 
-/// The meet is associative, commutative and idempotent, gives the greatest lower bound, and has u64::MAX as neutral.
+/// The meet is associative, commutative and idempotent, gives the greatest value below both, and has
+/// `NOTHING` as neutral.
 pub fn meet_laws()
     ensures { (o : Order) → MeetLaws o }
 {}

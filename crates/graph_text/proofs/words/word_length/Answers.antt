@@ -1,0 +1,13 @@
+use Rattle.std.proofs.Common.{◌≡◌, length, arith, sym, ◌∙◌}
+use Rattle.std.proofs.lemmas.List.Sums.{position_or_len_is}
+use Rattle.graph_text.specs.Lines.{is_blank}
+use Rattle.graph_text.proofs.words.word_length.Goals as goal
+
+pub returns-then-is_blank : goal.returns-then-is_blank
+returns-then-is_blank c =
+    sym (position_or_len_is is_blank c.args.text.now c.loop-place.place 0 (omega arith) c.loop-place.invariant (λ _. sym c.is_blank.ensures ∙ c.if-is_blank.true))
+
+pub returns : goal.returns
+returns c =
+    let all : c.loop-place.place ≡ length c.args.text.now = omega arith
+    in sym (position_or_len_is is_blank c.args.text.now (length c.args.text.now) 0 (omega arith) (λ k h. c.loop-place.invariant k (omega arith)) (λ h. absurd (omega arith)))

@@ -1,0 +1,59 @@
+ghost use Rattle.std.specs.Prelude.{◌≡◌, ◌≢◌, ◌<◌, ◌↔◌, IfOk, IsTrue, All, length, replicate, slice_index, slice_set};
+ghost use Rattle.value_order.specs.Order.{meet_of};
+ghost use Rattle.message_buffer.specs.Hands.{new_hand, lowered_hand};
+
+use grape_port::NoMemory;
+use std::alloc::Global;
+use std::marker::Model;
+use value_order::{NOTHING, Order, meet};
+
+/// What a worker takes into one evaluation: for each mirror of its fragment the meet of the values that came, or
+/// `NOTHING` where none came. Contracts see its order and that list of values.
+#[derive(Drop)]
+pub struct Hand {
+    order: Order,
+    values: Vec<u64>,
+}
+
+impl Model for Hand {
+    ghost use Rattle.message_buffer.specs.HandValues.{HandValues};
+
+    ghost Value = { HandValues };
+
+    ghost view = { λ h. record { order = h.order; values = h.values.items } };
+}
+
+impl Hand {
+    /// An empty hand for this many mirrors, whose memory is taken at once.
+    pub fn new(alloc: Global, order: Order, mirrors: u32) -> Result<Hand, NoMemory>
+        ensures { IfOk result (λ hand. hand ≡ new_hand order mirrors) }
+    {
+        let values = vec![in alloc; NOTHING; mirrors as usize].map_err(|_| NoMemory)?;
+        Ok(Hand { order, values })
+    }
+
+    /// The value of a mirror becomes the meet of it and this one. The mirror is one of the hand's, and the value isn't
+    /// `NOTHING`.
+    pub fn lower(&mut self, mirror: u32, value: u64)
+        requires mirror { mirror < length self.old.values }
+        requires value { value ≢ NOTHING }
+        ensures { self.new ≡ lowered_hand self.old mirror value }
+    {
+        let place = mirror as usize;
+        self.values[place] = meet(self.order, self.values[place], value);
+    }
+
+    /// The value of each mirror, `NOTHING` where no message came.
+    pub fn values(&self) -> &[u64]
+        ensures { result.now ≡ self.now.values }
+    {
+        &self.values
+    }
+
+    /// Whether no message came at all. Goes over the mirrors.
+    pub fn is_empty(&self) -> bool
+        ensures { IsTrue result ↔ All (λ value. value ≡ NOTHING) self.now.values }
+    {
+        self.values.iter().all(|value| *value == NOTHING)
+    }
+}

@@ -1,0 +1,129 @@
+ghost use Rattle.std.specs.Prelude.{◌≡◌, ◌<◌, ◌↔◌, ◌+◌, ◌*◌, ◌++◌, ◌∷◌, [], length, replicate, IfOk, IfSome, IsNone};
+ghost use Rattle.std.specs.Borrow.{sem};
+ghost use Rattle.pie_core.specs.LocalCalls.{new_local, loaded, settled, with_value, with_waiting, TakesOldest};
+ghost use Rattle.pie_core.specs.LocalLends.{LendsCounters};
+
+use crate::worklist::Worklist;
+use grape_port::NoMemory;
+use graph_core::Fragment;
+use std::alloc::Global;
+use std::marker::Model;
+
+/// The values of all places of a fragment, and what a program needs to evaluate it: the owned values as they were
+/// before, counters of the program's own, and a worklist of owned places. All memory is taken by `new`, so that
+/// evaluation takes none. Contracts see these four lists.
+#[derive(Drop)]
+pub struct Local {
+    values: Vec<u64>,
+    before: Vec<u64>,
+    counters: Vec<u64>,
+    worklist: Worklist,
+}
+
+impl Model for Local {
+    ghost use Rattle.std.specs.Prelude.{◌≡◌, ◌≤◌, vec_len};
+    ghost use Rattle.pie_core.specs.Locals.{LocalValues};
+
+    ghost Value = { LocalValues };
+
+    ghost view = { λ l. record { values = l.values.items; before = l.before.items; counters = l.counters.items; waiting = l.worklist.waiting } };
+
+    ghost invariant = { λ l. (l.worklist.room ≡ vec_len l.before) × (vec_len l.before ≤ vec_len l.values) };
+}
+
+impl Local {
+    /// Zeros for each place of the fragment, `counters` zeros for each owned place, and an empty worklist.
+    pub fn new(alloc: Global, part: &Fragment, counters: u32) -> Result<Local, NoMemory>
+        ensures { IfOk result (λ local. local ≡ new_local (length part.now.owned) (length part.now.mirrors) counters) }
+    {
+        let owned = part.owned().len();
+        let Some(places) = owned.checked_add(part.mirrors().len()) else {
+            return Err(NoMemory);
+        };
+        let Some(count) = owned.checked_mul(counters as usize) else {
+            return Err(NoMemory);
+        };
+        Ok(Local {
+            values: zeros(alloc, places)?,
+            before: zeros(alloc, owned)?,
+            counters: zeros(alloc, count)?,
+            worklist: Worklist::new(alloc, owned)?,
+        })
+    }
+
+    /// Sets the values of all places, and what `before` gives. There are as many values as places.
+    pub fn load(&mut self, values: &[u64])
+        requires { length values.now ≡ length self.old.values }
+        ensures { self.new ≡ loaded self.old values.now }
+    {
+        self.values.copy_from_slice(values);
+        self.settle();
+    }
+
+    /// The values of all places: of the owned ones, and then of the mirrors.
+    pub fn values(&self) -> &[u64]
+        ensures { result.now ≡ self.now.values }
+    {
+        &self.values
+    }
+
+    /// The owned values at the last `load` or `settle`.
+    pub fn before(&self) -> &[u64]
+        ensures { result.now ≡ self.now.before }
+    {
+        &self.before
+    }
+
+    /// Sets what `before` gives to the present owned values.
+    pub fn settle(&mut self)
+        ensures { self.new ≡ settled self.old }
+    {
+        let owned = self.before.len();
+        self.before.copy_from_slice(&self.values[..owned]);
+    }
+
+    /// Sets the value of a place.
+    pub fn set(&mut self, place: u32, value: u64)
+        requires { place < length self.old.values }
+        ensures { self.new ≡ with_value self.old place value }
+    {
+        self.values[place as usize] = value;
+    }
+
+    /// Adds an owned place to the end of the worklist, where it isn't in it.
+    pub fn enqueue(&mut self, place: u32)
+        requires { place < length self.old.before }
+        ensures { self.new ≡ with_waiting self.old place }
+    {
+        self.worklist.push(place);
+    }
+
+    /// Takes the oldest place from the worklist. `None` comes exactly where it is empty.
+    pub fn dequeue(&mut self) -> Option<u32>
+        ensures none { IsNone result ↔ (self.old.waiting ≡ []) }
+        ensures oldest { TakesOldest self.old result self.new }
+    {
+        self.worklist.pop()
+    }
+
+    /// The program's counters, those of the first owned place first.
+    pub fn counters(&self) -> &[u64]
+        ensures { result.now ≡ self.now.counters }
+    {
+        &self.counters
+    }
+
+    /// The program's counters, to be changed.
+    pub fn counters_mut(&mut self) -> &mut [u64]
+        ensures* writes_back { sem 𝓛 (LendsCounters self.entry result) }
+        ensures value { result.now ≡ self.old.counters }
+    {
+        &mut self.counters
+    }
+}
+
+fn zeros(alloc: Global, count: usize) -> Result<Vec<u64>, NoMemory>
+    ensures { IfOk result (λ v. v.items ≡ replicate count 0) }
+{
+    Ok(vec![in alloc; 0; count]?)
+}
