@@ -1,5 +1,5 @@
 ghost use Rattle.std.specs.Prelude.{◌≡◌, length, IfOk, slice_index};
-ghost use Rattle.graph_core.specs.Graphs.{count_of, IsGraph, IsJob};
+ghost use Rattle.graph_core.specs.Graphs.{count_of, IsJob};
 ghost use Rattle.graph_text.specs.Input.{IsBuilt};
 ghost use Rattle.answer_text.specs.AnswerText.{answer_text, rows_of, IsAnswerText};
 
@@ -30,8 +30,7 @@ pub(crate) fn answer_of(alloc: Global, job: &Job) -> Result<Answer, NoMemory>
 
 /// A row for each vertex, in rising number, with its value.
 fn rows(alloc: Global, graph: &Graph, values: &[u64]) -> Result<Vec<AnswerRow>, NoMemory>
-    requires graph { IsGraph graph.now }
-    requires values { length values.now ≡ count_of graph.now }
+    requires { length values.now ≡ count_of graph.now }
     ensures { IfOk result (λ rows. rows.items ≡ rows_of graph.now (slice_index values.now)) }
 {
     let count = graph.count();

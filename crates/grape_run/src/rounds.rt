@@ -13,7 +13,6 @@ use std::alloc::Global;
 /// Edges lower the values of their ends, round by round, until a round lowers none (the method of
 /// Bellman and Ford). Takes as many rounds as a least walk has edges, and one vector of the values.
 pub fn distances(alloc: Global, graph: &Graph, source: u32) -> Result<Vec<u64>, NoMemory>
-    requires { IsGraph graph.now }
     ensures count { IfOk result (λ values. vec_len values ≡ count_of graph.now) }
     ensures values { IfOk result (λ values. (v : ℕ) → v < count_of graph.now → IsDistance graph.now (source ∷ []) v (slice_index values.items v)) }
 {
@@ -23,9 +22,9 @@ pub fn distances(alloc: Global, graph: &Graph, source: u32) -> Result<Vec<u64>, 
     Ok(values)
 }
 
-/// 0 at the source, and `FAR` elsewhere.
+/// 0 at the source, and `FAR` elsewhere. The graph lies within its limits, as each graph does.
 fn starts(alloc: Global, graph: &Graph, source: u32) -> Result<Vec<u64>, NoMemory>
-    requires { IsGraph graph.now }
+    ensures graph { IsGraph graph.now }
     ensures count { IfOk result (λ values. vec_len values ≡ count_of graph.now) }
     ensures at_most_far { IfOk result (λ values. AreAtMostFar values.items) }
     ensures under_way { IfOk result (λ values. IsUnderWay graph.now (source ∷ []) values.items) }
@@ -41,7 +40,6 @@ fn starts(alloc: Global, graph: &Graph, source: u32) -> Result<Vec<u64>, NoMemor
 
 /// Lowers values by each edge in turn, and says whether one was lowered.
 fn lower_edges(graph: &Graph, values: &mut [u64]) -> bool
-    requires graph { IsGraph graph.now }
     requires count { length values.old ≡ count_of graph.now }
     requires at_most_far { AreAtMostFar values.old }
     ensures at_most_far { AreAtMostFar values.new }

@@ -13,4 +13,4 @@ returns-clause-values c =
     let relaxed = under_way-relaxed g from last c.loop-test.ensures.lowered way in
     λ v l.
     subst (λ values. IsDistance g from v (slice_index values v)) (sym (written_back c.loop.values.len last c.loop.values.items (omega (arith, c.lower_edges.auto.values, c.deref_mut.ensures.len))))
-    (c.relaxed_weights_are_distances.ensures g from (slice_index last) c.requires relaxed v l (way.weights v l))
+    (c.relaxed_weights_are_distances.ensures g from (slice_index last) c.starts.ensures.graph relaxed v l (way.weights v l))

@@ -15,8 +15,8 @@ loop-edge-preserved c =
     let so_far = c.loop-edge.invariant in
     let first : Edge = record { from = 0; to = 0; weight = 0 } in
     let e : Edge = slice_index_or edges here first in
-    let inside = edge_in g edges here first c.edges-edge-items.ensures c.loop-edge-test.true in
-    let ends = ends_in g e c.requires.graph inside in
+    let inside = edge_in g edges here first c.edges-edge-items.ensures.edges c.loop-edge-test.true in
+    let ends = ends_in g e c.edges-edge-items.ensures.graph inside in
     elim c.if-lower_edge.branch [
       | then-lower_edge w ↦
           let lowers : Lowers before e after = w.if-lower_edge.ensures in
