@@ -110,17 +110,17 @@ numbers-insert true n keys after ns e p h =
           (IsPermutation-trans (n ∷ keys) (n ∷ ns) (insert_number n ns) (IsPermutation-cons n keys ns h.same) (insert-new n ns absent));
     }
   where
-  not_true : (b : Bool) → not b ≡ true → b ≡ false
-  not_true true x = sym x
-  not_true false x = refl
+    not_true : (b : Bool) → not b ≡ true → b ≡ false
+    not_true true x = sym x
+    not_true false x = refl
 numbers-insert false n keys after ns e p h =
     let there : is_among n ns ≡ true = sym (has_number n keys ns h) ∙ not_false (list_any (λ k. n == k) keys) (sym e)
     in let kept : insert_number n ns ≡ ns = insert-kept n ns h.rising there
     in subst (λ ks. AreNumbers ks (insert_number n ns)) (sym p) (subst (AreNumbers keys) (sym kept) h)
   where
-  not_false : (b : Bool) → not b ≡ false → b ≡ true
-  not_false true x = refl
-  not_false false x = sym x
+    not_false : (b : Bool) → not b ≡ false → b ≡ true
+    not_false true x = refl
+    not_false false x = sym x
 
 -- What is held.
 

@@ -54,8 +54,8 @@ length_no_feed line e =
     let open_end : (get_or line (length line - 1) 0 == 10) ≡ false = not_ten (get_or line (length line - 1) 0) e
     in sym (before_open line (ap (λ b. b == 10) (sym (get-last line)) ∙ open_end))
   where
-  not_ten : (n : ℕ) → (n ≡ 10 → ⊥) → (n == 10) ≡ false
-  not_ten n h = grind (arith, nat_tests, h)
+    not_ten : (n : ℕ) → (n ≡ 10 → ⊥) → (n == 10) ≡ false
+    not_ten n h = grind (arith, nat_tests, h)
 
 pub length_empty : (line : List ℕ) → length line ≡ 0 → length line ≡ length (before_line_feed line)
 length_empty [] h = refl
@@ -82,9 +82,9 @@ split-line (b ∷ text) (suc k) l none here =
       is = ap (λ i. take i (b ∷ text)) next ∙ ap (λ ls. b ∷ ls) rest.is;
     }
   where
-  other : (c : Bool) → (c ≡ true → ⊥) → c ≡ false
-  other true h = absurd (h refl)
-  other false h = refl
+    other : (c : Bool) → (c ≡ true → ⊥) → c ≡ false
+    other true h = absurd (h refl)
+    other false h = refl
 
 -- the exit of a `?`
 pub answer-exit : (r : Result (Unit {0}) TextFault) (f g : TextFault) (shown : Option BadLine) → r ≡ Err g → g ≡ f → Answers {A = Unit {0}} (Err f) shown → Answers r shown
@@ -294,9 +294,9 @@ few-last before (b ∷ line) o few h =
     = map_none (bad (length before + 1)) (cause_shown before (b ∷ line)) (sym (or_none (option_map (bad (length before + 1)) (cause_shown before (b ∷ line)))) ∙ ap (first_bad cause_shown before) (sym (lines_one b line o)) ∙ h)
     in few-open before (b ∷ line) (not_long (is_too_long before (b ∷ line)) (sym (cause-open before (b ∷ line) o) ∙ none))
   where
-  not_long : (c : Bool) → too_long_cause c ≡ None → c ≡ false
-  not_long true k = absurd (let x : Some causes.TooLong ≡ None = k in cc)
-  not_long false k = refl
+    not_long : (c : Bool) → too_long_cause c ≡ None → c ≡ false
+    not_long true k = absurd (let x : Some causes.TooLong ≡ None = k in cc)
+    not_long false k = refl
 
 pub few-text : (t : TextState) (text : List ℕ) → HasText t text → t.whole.bytes ≤ MAX_INPUT → length text ≤ MAX_INPUT
 few-text t text h few =
