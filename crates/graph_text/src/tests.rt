@@ -4,14 +4,18 @@ use graph_core::{Cut, Edge, Job, Policy, Query};
 use std::alloc::Global;
 use std::test::Fail;
 
-/// What a text is read as that comes in pieces of this size.
-fn read(alloc: Global, text: &[u8], size: usize) -> Result<Job, TextFault>
-    requires { 0 < size }
-{
-    let mut reader = LineReader::new(alloc)?;
-    for piece in text.chunks(size) {
+/// Feeds a text in pieces of this size.
+fn feed(reader: &mut LineReader, text: &[u8], size: usize) -> Result<(), TextFault> {
+    for piece in text.chunks(size.max(1)) {
         reader.feed(piece)?;
     }
+    Ok(())
+}
+
+/// What a text is read as that comes in pieces of this size.
+fn read(alloc: Global, text: &[u8], size: usize) -> Result<Job, TextFault> {
+    let mut reader = LineReader::new(alloc)?;
+    feed(&mut reader, text, size)?;
     reader.finish()
 }
 
@@ -110,21 +114,27 @@ fn long_lines(rt: HostRuntime) -> Result<(), Fail> {
     for size in [1usize, 1000, 4096] {
         let mut reader = LineReader::new(rt.alloc())?;
         assert_eq!(rt; reader.feed(b"# one\n"), Ok(()));
-        for piece in comment[..4096].chunks(size) {
-            assert_eq!(rt; reader.feed(piece), Ok(()));
-        }
+        assert_eq!(rt; feed(&mut reader, &comment[..4096], size), Ok(()));
         assert_eq!(rt; reader.feed(b"#"), long);
         assert_eq!(rt; reader.feed(b"\nhello\n"), long);
         assert_eq!(rt; reader.finish().err(), long.err());
     }
+    Ok(())
+}
+
+#[test]
+fn longest_lines(rt: HostRuntime) -> Result<(), Fail> {
+    let comment = vec![in rt.alloc(); b'#'; 4096]?;
+    let long = TextFault::Bad {
+        line: 3,
+        why: Why::TooLong,
+    };
     let mut reader = LineReader::new(rt.alloc())?;
-    assert_eq!(rt; reader.feed(&comment[..4096]), Ok(()));
+    assert_eq!(rt; reader.feed(&comment), Ok(()));
     assert_eq!(rt; reader.feed(b"\n"), Ok(()));
     assert_eq!(rt; reader.feed(&comment[..4095]), Ok(()));
     assert_eq!(rt; reader.feed(b"\r\n"), Ok(()));
-    assert_eq!(rt; reader.feed(&comment[..4096]), Ok(()));
-    let line = 3;
-    let why = Why::TooLong;
-    assert_eq!(rt; reader.feed(b"\r\n"), Err(TextFault::Bad { line, why }));
+    assert_eq!(rt; reader.feed(&comment), Ok(()));
+    assert_eq!(rt; reader.feed(b"\r\n"), Err(long));
     Ok(())
 }
