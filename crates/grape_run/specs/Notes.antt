@@ -13,6 +13,7 @@ mode_of [] = None
 mode_of (word ∷ []) = if bytes_eq word (codes "run") then Some mode.Run else None
 mode_of (word ∷ next ∷ words) = None
 
+-- why a line is bad, as a word
 abbrev pub why_text : Why → List ℕ
 why_text causes.Word = codes "word"
 why_text causes.Number = codes "number"
@@ -25,10 +26,14 @@ why_text causes.NoSource = codes "no-source"
 why_text causes.NoPattern = codes "no-pattern"
 why_text causes.TooLong = codes "too-long"
 
+abbrev pub bad_line_text : ℕ → Why → List ℕ
+bad_line_text line why = codes "grape: input line " ++ decimal line ++ codes ": " ++ why_text why ++ codes "\n"
+
+-- the line of a status, with its line feed; a run that is done writes none
 abbrev pub note_text : Status → List ℕ
 note_text status.Done = []
 note_text status.BadWords = codes "grape: usage: run, resume, or demo VERTICES NUMBER\n"
-note_text (status.BadInput line why) = codes "grape: input line " ++ decimal line ++ codes ": " ++ why_text why ++ codes "\n"
+note_text (status.BadInput line why) = bad_line_text line why
 note_text status.ReadFault = codes "grape: read fault\n"
 note_text status.WriteFault = codes "grape: write fault\n"
 note_text status.NoMemory = codes "grape: out of memory\n"

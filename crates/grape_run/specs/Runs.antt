@@ -1,8 +1,9 @@
 -- What a run has read and written when it answers a status.
 use Rattle.std.specs.Prelude.{◌≡◌, ℕ, ◌⊎◌, List, [], ◌++◌, Option, Some, None, Result, Ok, Err, ⊤}
-use Rattle.grape_port.specs.Ports.{Rose, Appends}
+use Rattle.grape_port.specs.Ports.{Rose, Appends, AppendsFront}
 use Rattle.graph_core.specs.declared.job.Job.{Job}
-use Rattle.graph_text.specs.Input.{bad, input_of, shown_of}
+use Rattle.graph_core.specs.Graphs.{IsJob}
+use Rattle.graph_text.specs.Input.{BadLine, bad, input_of, shown_of}
 use Rattle.answer_text.specs.AnswerText.{IsAnswerText}
 use Rattle.graph_text.specs.declared.fault.TextFault.TheVariants as text_faults
 use Rattle.grape_run.specs.declared.input.InputFault.{InputFault}
@@ -28,18 +29,23 @@ abbrev pub ReadsSource : Status → Option (List ℕ) → Option (List ℕ) → 
 ReadsSource s None after = after ≡ None
 ReadsSource s (Some before) after = (read rest : List ℕ) × (before ≡ read ++ rest) × (after ≡ Some rest) × FitsRead s read rest
 
--- the answer of the job that the text is, whole, or a front of it
-abbrev pub AppendsAnswer : List ℕ → Option (List ℕ) → Option (List ℕ) → Type 0
-AppendsAnswer text before after = (job : Job) × (input_of text ≡ Ok job) × (answer : List ℕ) × IsAnswerText job answer × Appends before answer after
+-- the job is the one that the source's text is, where the source tells it
+abbrev pub IsInputOf : Option (List ℕ) → Job → Type 0
+IsInputOf None job = ⊤
+IsInputOf (Some text) job = input_of text ≡ Ok job
 
-abbrev pub AppendsFront : List ℕ → Option (List ℕ) → Option (List ℕ) → Type 0
-AppendsFront text before after = (job : Job) × (input_of text ≡ Ok job) × (front rest : List ℕ) × IsAnswerText job (front ++ rest) × Appends before front after
+-- the text is the answer of a job within the limits, which is that of the source's text
+pub record IsAnswerFor (told : Option (List ℕ)) (answer : List ℕ) : Type 0 where
+  pub job : Job
+  pub within : IsJob job
+  pub is_input : IsInputOf told job
+  pub is_answer : IsAnswerText job answer
 
--- what a run with this status wrote, where its source had this text
-abbrev pub WritesFor : Status → List ℕ → Option (List ℕ) → Option (List ℕ) → Type 0
-WritesFor status.Done text before after = AppendsAnswer text before after
-WritesFor status.WriteFault text before after = AppendsFront text before after
-WritesFor s text before after = after ≡ before
+-- What a run with this status wrote, where its source had this text: the answer, a front of it, or nothing.
+abbrev pub WritesFor : Status → Option (List ℕ) → Option (List ℕ) → Option (List ℕ) → Type 0
+WritesFor status.Done told before after = (answer : List ℕ) × IsAnswerFor told answer × Appends before answer after
+WritesFor status.WriteFault told before after = (answer : List ℕ) × IsAnswerFor told answer × AppendsFront before answer after
+WritesFor s told before after = after ≡ before
 
 -- a run answers neither of the statuses after which something is written
 abbrev pub IsSilent : Status → Type 0
@@ -47,10 +53,21 @@ IsSilent status.Done = ⊥
 IsSilent status.WriteFault = ⊥
 IsSilent s = ⊤
 
+-- An input is answered, and another text is refused by its first bad line, unless memory ran out.
+abbrev pub EndsAs : Status → Result Job BadLine → Type 0
+EndsAs s (Ok job) = (s ≡ status.Done) ⊎ (s ≡ status.NoMemory)
+EndsAs s (Err first) = (s ≡ status.BadInput first.line first.why) ⊎ (s ≡ status.NoMemory)
+
+-- the status of a run whose input was not read as a job
+abbrev pub status_of : InputFault → Status
+status_of (faults.Text (text_faults.Bad line why)) = status.BadInput line why
+status_of (faults.Text text_faults.NoMemory) = status.NoMemory
+status_of faults.Failed = status.ReadFault
+
 -- the whole text was added, or, where the count of faults rose, a front of it
 abbrev pub AppendsUnlessFault : Option (List ℕ) → List ℕ → Option (List ℕ) → ℕ → ℕ → Type 0
 AppendsUnlessFault before text after faults_before faults_after =
-    Appends before text after ⊎ (Rose faults_before faults_after × (front rest : List ℕ) × (text ≡ front ++ rest) × Appends before front after)
+    Appends before text after ⊎ (Rose faults_before faults_after × AppendsFront before text after)
 
 -- what reading a job gave, where the source told its text: the part that was read, and the rest
 abbrev pub FitsText : Result Job InputFault → List ℕ → List ℕ → Type 0

@@ -1,44 +1,65 @@
-ghost use Rattle.std.specs.Prelude.{◌≡◌};
+ghost use Rattle.std.specs.Prelude.{◌≡◌, ◌≤◌, Err, IfOk, vec_len};
 ghost use Rattle.grape_port.specs.Ports.{Rose};
+ghost use Rattle.graph_core.specs.Graphs.{IsJob};
+ghost use Rattle.graph_text.specs.Input.{IsBuilt};
 ghost use Rattle.grape_run.specs.Runs.{ReadsJob};
 
-use grape_port::{Failed, NoMemory, Sink, Source};
+use grape_port::{Failed, NoMemory, Source};
 use graph_core::Job;
-use graph_text::{LineReader, TextFault, Why};
+use graph_text::{LineReader, TextFault};
 use std::alloc::Global;
 
 /// Why no job was read.
 #[derive(Clone, Copy, Debug, PartialEq, Eq)]
 pub enum InputFault {
+    /// The input is none, or memory ran out.
     Text(TextFault),
+    /// A read failed.
     Failed,
 }
 
-/// Reads the job that a source has, to the end or to the first fault.
+/// How many bytes are asked for at once.
+const PIECE: usize = 65_536;
+
+/// The most bytes that an input has.
+const MAX_BYTES: u64 = 268_435_456;
+
+/// Reads the job that a source has, in pieces of 65,536 bytes, to the end or to the first fault.
+///
+/// What was read shows the fault: a bad line, unless a read failed before one was shown.
 pub fn read_job<S: Source>(alloc: Global, input: &mut S) -> Result<Job, InputFault>
     ensures read { ReadsJob (S.left input.old) (S.left input.new) result }
+    ensures job { IfOk result IsJob }
+    ensures built { IfOk result (λ job. IsBuilt job.query) }
     ensures fault { result ≡ Err InputFault.Failed → Rose (S.faults input.old) (S.faults input.new) }
+    ensures faults_stay { S.faults input.old ≤ S.faults input.new }
 {
-    let mut reader = match LineReader::new(alloc) {
-        Ok(reader) => reader,
-        Err(_) => return Err(InputFault::Text(TextFault::NoMemory)),
+    let Ok(mut reader) = LineReader::new(alloc) else {
+        return Err(InputFault::Text(TextFault::NoMemory));
     };
-    let mut piece = [0u8; 4096];
-    for _ in 0..268_435_458u64 {
-        match input.read(&mut piece) {
-            Err(_) => return Err(InputFault::Failed),
-            Ok(count) => {
-                if count == 0 {
-                    return match reader.finish() {
-                        Ok(job) => Ok(job),
-                        Err(fault) => Err(InputFault::Text(fault)),
-                    };
-                }
-                if let Err(fault) = reader.feed(&piece[..count]) {
-                    return Err(InputFault::Text(fault));
-                }
-            }
+    let Ok(mut bytes) = zeros(alloc, PIECE) else {
+        return Err(InputFault::Text(TextFault::NoMemory));
+    };
+    let piece = bytes.as_mut_slice();
+    for turn in 0..=MAX_BYTES {
+        let Ok(count) = input.read(piece) else {
+            return Err(InputFault::Failed);
+        };
+        if count == 0 {
+            return match reader.finish() {
+                Ok(job) => Ok(job),
+                Err(fault) => Err(InputFault::Text(fault)),
+            };
+        }
+        if let Err(fault) = reader.feed(&piece[..count]) {
+            return Err(InputFault::Text(fault));
         }
     }
-    Err(InputFault::Text(TextFault::NoMemory))
+    unreachable!()
+}
+
+fn zeros(alloc: Global, count: usize) -> Result<Vec<u8>, NoMemory>
+    ensures { IfOk result (λ bytes. vec_len bytes ≡ count) }
+{
+    vec![in alloc; 0u8; count].map_err(|_| NoMemory)
 }

@@ -1,20 +1,41 @@
 ghost use Rattle.std.specs.Prelude.{◌≡◌};
 ghost use Rattle.grape_run.specs.Notes.{code_of};
 
-use grape_port::{Failed, NoMemory, Sink, Source};
-use graph_text::{LineReader, TextFault, Why};
+use crate::input::InputFault;
+use graph_text::{TextFault, Why};
 
 /// How a run ended.
 #[derive(Clone, Copy, Debug, PartialEq, Eq)]
 pub enum Status {
+    /// The whole answer was written and flushed.
     Done,
+    /// The words ask for nothing that there is.
     BadWords,
+    /// The first bad line of the input, by its number from 1, and why it is bad.
     BadInput { line: u64, why: Why },
+    /// A read of the input failed.
     ReadFault,
+    /// A write or the flush of the answer failed; a front of the answer may stand there.
     WriteFault,
+    /// Memory ran out before anything was written.
     NoMemory,
 }
 
+impl From<InputFault> for Status {
+    ghost use Rattle.grape_run.specs.Runs.{status_of};
+
+    ghost from_gives = { λ fault status. status ≡ status_of fault };
+
+    fn from(fault: InputFault) -> Status {
+        match fault {
+            InputFault::Text(TextFault::Bad { line, why }) => Status::BadInput { line, why },
+            InputFault::Text(TextFault::NoMemory) => Status::NoMemory,
+            InputFault::Failed => Status::ReadFault,
+        }
+    }
+}
+
+/// The number with which a program ends that has this status: 0 for `Done`, and else from 2 on.
 pub fn code(status: &Status) -> u8
     ensures { result ≡ code_of status.now }
 {

@@ -35,3 +35,6 @@ pub use worked::{row_values, rows};
 
 /// The distance of a vertex that no walk leads to, 2^52: every distance along a walk is smaller.
 pub const FAR: u64 = 4_503_599_627_370_496;
+
+#[cfg(test)]
+mod tests;

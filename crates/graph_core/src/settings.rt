@@ -1,23 +1,22 @@
 /// How vertices are given to fragments.
 #[derive(Clone, Copy, Debug, PartialEq, Eq)]
 pub enum Cut {
-    /// By index: fragment `i` of `f` owns a run of neighbouring indexes.
+    /// By index: each fragment owns a run of neighbours.
     Range,
     /// By a hash of the vertex's number.
     Hash,
 }
 
-/// How far fragments may run ahead of one another.
+/// How far a fragment may run ahead of those that still have work.
 #[derive(Clone, Copy, Debug, PartialEq, Eq)]
 pub enum Policy {
-    /// In step: no fragment is a round ahead.
+    /// Not a round ahead.
     Bsp,
-    /// Without any waiting.
+    /// As far as it comes: no fragment waits for another.
     Ap,
-    /// At most `c` rounds ahead, `c` being 0 to 1,000,000.
+    /// At most `c` rounds ahead; `c` is 0 to 1,000,000.
     Ssp { c: u32 },
-    /// As `Ssp`, with a waiting time that adapts to what has arrived: `c` is 0 to 1,000,000, and `l` is
-    /// 1 to 1,000,000.
+    /// As `Ssp`, and it lets mail gather for a while, up to `l` batches; `l` is 1 to 1,000,000.
     Aap { c: u32, l: u32 },
 }
 
@@ -30,6 +29,6 @@ pub struct Settings {
     pub lanes: u32,
     pub cut: Cut,
     pub policy: Policy,
-    /// After how many results of fragments a snapshot begins; 0 for none.
+    /// After how many evaluations of fragments a snapshot is due; 0 means none.
     pub snapshot: u32,
 }

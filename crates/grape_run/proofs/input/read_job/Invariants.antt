@@ -1,8 +1,17 @@
-use Rattle.std.proofs.Common.{ℕ, ◌≤◌, List}
+use Rattle.std.proofs.Common.{◌≡◌, ℕ, ◌≤◌, List, length}
 use Rattle.grape_port.specs.Ports.{TakesFront}
+use Rattle.graph_text.specs.Lines.{MAX_INPUT}
 use Rattle.graph_text.specs.Reader.{HasRead}
 use Rattle.grape_run.proofs.input.read_job.Given as goal
 
--- the reader has read what was taken from the source
-abbrev pub invariant-loop : goal.invariant-loop
-invariant-loop g l = (text : List ℕ) × HasRead l.reader text × TakesFront (g.S.Source.left l.initial.input) text (g.S.Source.left l.input) × (g.S.Source.faults l.initial.input ≤ g.S.Source.faults l.input)
+-- the reader has read what was taken from the source, at least a byte a turn
+abbrev pub invariant-loop-turn : goal.invariant-loop-turn
+invariant-loop-turn g l = record {
+  text : List ℕ;
+  has_read : HasRead l.reader text;
+  taken : TakesFront (g.S.Source.left l.initial.input) text (g.S.Source.left l.input);
+  turns : l.turn ≤ length text;
+  few : length text ≤ MAX_INPUT;
+  room : length l.piece ≡ 65536;
+  faults_stay : g.S.Source.faults l.initial.input ≤ g.S.Source.faults l.input;
+}
