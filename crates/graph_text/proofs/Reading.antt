@@ -1,18 +1,17 @@
 -- What a reader has read, with a line or a piece more.
-use Rattle.std.proofs.Common.{◌≡◌, ℕ, zero, suc, ◌+◌, ◌-◌, ◌<◌, ◌≤◌, Bool, true, false, cond, ◌||◌, ◌==◌, List, [], ◌∷◌, ◌++◌, length, Option, Some, None, Result, Ok, Err, refl, sym, ◌∙◌, ap, subst, arith, append_assoc, append-nil, nat_lt, get_or, take, drop, length-append}
-use Rattle.std.specs.Prelude.{option_map, flat_map, OnOk, filter_map}
-use Rattle.std.specs.List.{list_any, cons_option, AllByRecursion}
+use Rattle.std.proofs.Common.{◌≡◌, ℕ, zero, suc, ◌+◌, ◌-◌, ◌<◌, ◌≤◌, Bool, true, false, cond, ◌||◌, ◌==◌, List, [], ◌∷◌, ◌++◌, length, Option, Some, None, Result, Ok, Err, refl, sym, ◌∙◌, ap, subst, arith, append_assoc, nat_lt, get_or, take, length-append}
+use Rattle.std.specs.Prelude.{option_map, flat_map, OnOk}
+use Rattle.std.specs.List.{cons_option}
 use Rattle.std.specs.Option.{option_or}
 use Rattle.std.specs.Result.{result_ok}
 use Rattle.std.proofs.lemmas.Bool.Decides.{nat_tests}
-use Rattle.std.proofs.lemmas.List.Elements.{filter_map-append, recursion_from_All}
+use Rattle.std.proofs.lemmas.List.Elements.{filter_map-append}
 use Rattle.graph_core.specs.declared.job.Job.{Job}
-use Rattle.graph_text.specs.declared.fault.Why.{Why}
 use Rattle.graph_text.specs.declared.fault.Why.TheVariants as causes
 use Rattle.graph_text.specs.declared.fault.TextFault.{TextFault}
 use Rattle.graph_text.specs.declared.fault.TextFault.TheVariants as fault
 use Rattle.graph_text.specs.declared.statement.Statement.{Statement}
-use Rattle.graph_text.specs.Lines.{lines_of, onto_whole, onto_last, whole_lines, last_line, HasNoLineFeed, IsOneLine, without_last, before_line_feed, is_ended, is_too_long, words_of, MAX_LINE, MAX_INPUT}
+use Rattle.graph_text.specs.Lines.{lines_of, onto_whole, onto_last, whole_lines, last_line, HasNoLineFeed, IsOneLine, without_last, before_line_feed, is_too_long, words_of, MAX_INPUT}
 use Rattle.graph_text.specs.Statements.{statement_of}
 use Rattle.graph_text.specs.Input.{BadLine, bad, statements_of, cause_among, cause_of, cause_shown, first_bad, shown_of, input_of, job_of_lines}
 use Rattle.graph_text.specs.ReaderState.{LinesState, TextState}

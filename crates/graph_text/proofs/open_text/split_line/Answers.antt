@@ -1,4 +1,4 @@
-use Rattle.std.proofs.Common.{◌≡◌, ◌+◌, ◌++◌, take, drop, sym, ap, subst, ◌∙◌, arith, take-append-drop}
+use Rattle.std.proofs.Common.{◌+◌, ◌++◌, take, sym, ap, subst, ◌∙◌, arith, take-append-drop}
 use Rattle.graph_text.specs.Lines.{IsOneLine}
 use Rattle.graph_text.proofs.Reading.{split-line}
 use Rattle.graph_text.proofs.open_text.split_line.Goals as goal
