@@ -1,6 +1,6 @@
 -- What is gathered, one statement more.
 use Rattle.std.proofs.Common.{◌≡◌, ℕ, ◌+◌, ◌<◌, ◌≤◌, Bool, true, false, cond, ◌||◌, ◌==◌, List, [], ◌∷◌, ◌++◌, length, Option, Some, None, Ok, refl, sym, ◌∙◌, ap, subst, arith, append-nil, nat_lt, not}
-use Rattle.std.specs.Prelude.{option_map, filter_map, count_by, is_some, ⊤}
+use Rattle.std.specs.Prelude.{filter_map, count_by, is_some}
 use Rattle.std.specs.Bool.{MatchBool}
 use Rattle.std.specs.List.{list_any, cons_option}
 use Rattle.std.specs.List.Sorted.{IsPermutation}
@@ -8,7 +8,7 @@ use Rattle.std.specs.Option.{option_or}
 use Rattle.std.proofs.lemmas.Bool.Decides.{nat_tests}
 use Rattle.std.proofs.lemmas.List.Elements.{filter_map-append}
 use Rattle.std.proofs.lemmas.List.Sums.{sum_by_push}
-use Rattle.std.proofs.lemmas.List.Sorted.{IsPermutation-refl, IsPermutation-sym, IsPermutation-trans, IsPermutation-cons, length_permutation, list_any-IsPermutation}
+use Rattle.std.proofs.lemmas.List.Sorted.{IsPermutation-sym, IsPermutation-trans, IsPermutation-cons, length_permutation, list_any-IsPermutation}
 use Rattle.graph_core.specs.declared.edge.Edge.{Edge}
 use Rattle.graph_core.specs.Graphs.{MAX_VERTICES, MAX_EDGES}
 use Rattle.graph_text.specs.declared.fault.Why.TheVariants as causes
@@ -18,7 +18,7 @@ use Rattle.graph_text.specs.declared.statement.Statement.{Statement}
 use Rattle.graph_text.specs.declared.statement.Statement.TheVariants.{Nothing, Joins, Asks}
 use Rattle.graph_text.specs.ReaderState.{GatheredState}
 use Rattle.graph_text.specs.Input.{insert_number, vertex_numbers, repeats, is_edge, are_too_many, cause_among, first_of, question_in, edge_in, missing_for}
-use Rattle.graph_text.specs.Gathering.{DoRise, AreNumbers, Holds}
+use Rattle.graph_text.specs.Gathering.{AreNumbers, Holds}
 use Rattle.graph_text.proofs.Jobs.{do_rise-insert, count_edges}
 use Rattle.graph_text.proofs.Numbers.{is_among, insert-kept, insert-new, numbers-push}
 
@@ -110,17 +110,17 @@ numbers-insert true n keys after ns e p h =
           (IsPermutation-trans (n ∷ keys) (n ∷ ns) (insert_number n ns) (IsPermutation-cons n keys ns h.same) (insert-new n ns absent));
     }
   where
-  not_true : (b : Bool) → not b ≡ true → b ≡ false
-  not_true true x = sym x
-  not_true false x = refl
+    not_true : (b : Bool) → not b ≡ true → b ≡ false
+    not_true true x = sym x
+    not_true false x = refl
 numbers-insert false n keys after ns e p h =
     let there : is_among n ns ≡ true = sym (has_number n keys ns h) ∙ not_false (list_any (λ k. n == k) keys) (sym e)
     in let kept : insert_number n ns ≡ ns = insert-kept n ns h.rising there
     in subst (λ ks. AreNumbers ks (insert_number n ns)) (sym p) (subst (AreNumbers keys) (sym kept) h)
   where
-  not_false : (b : Bool) → not b ≡ false → b ≡ true
-  not_false true x = refl
-  not_false false x = sym x
+    not_false : (b : Bool) → not b ≡ false → b ≡ true
+    not_false true x = refl
+    not_false false x = sym x
 
 -- What is held.
 

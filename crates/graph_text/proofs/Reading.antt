@@ -1,18 +1,17 @@
 -- What a reader has read, with a line or a piece more.
-use Rattle.std.proofs.Common.{◌≡◌, ℕ, zero, suc, ◌+◌, ◌-◌, ◌<◌, ◌≤◌, Bool, true, false, cond, ◌||◌, ◌==◌, List, [], ◌∷◌, ◌++◌, length, Option, Some, None, Result, Ok, Err, refl, sym, ◌∙◌, ap, subst, arith, append_assoc, append-nil, nat_lt, get_or, take, drop, length-append}
-use Rattle.std.specs.Prelude.{option_map, flat_map, OnOk, filter_map}
-use Rattle.std.specs.List.{list_any, cons_option, AllByRecursion}
+use Rattle.std.proofs.Common.{◌≡◌, ℕ, zero, suc, ◌+◌, ◌-◌, ◌<◌, ◌≤◌, Bool, true, false, cond, ◌||◌, ◌==◌, List, [], ◌∷◌, ◌++◌, length, Option, Some, None, Result, Ok, Err, refl, sym, ◌∙◌, ap, subst, arith, append_assoc, nat_lt, get_or, take, length-append}
+use Rattle.std.specs.Prelude.{option_map, flat_map, OnOk}
+use Rattle.std.specs.List.{cons_option}
 use Rattle.std.specs.Option.{option_or}
 use Rattle.std.specs.Result.{result_ok}
 use Rattle.std.proofs.lemmas.Bool.Decides.{nat_tests}
-use Rattle.std.proofs.lemmas.List.Elements.{filter_map-append, recursion_from_All}
+use Rattle.std.proofs.lemmas.List.Elements.{filter_map-append}
 use Rattle.graph_core.specs.declared.job.Job.{Job}
-use Rattle.graph_text.specs.declared.fault.Why.{Why}
 use Rattle.graph_text.specs.declared.fault.Why.TheVariants as causes
 use Rattle.graph_text.specs.declared.fault.TextFault.{TextFault}
 use Rattle.graph_text.specs.declared.fault.TextFault.TheVariants as fault
 use Rattle.graph_text.specs.declared.statement.Statement.{Statement}
-use Rattle.graph_text.specs.Lines.{lines_of, onto_whole, onto_last, whole_lines, last_line, HasNoLineFeed, IsOneLine, without_last, before_line_feed, is_ended, is_too_long, words_of, MAX_LINE, MAX_INPUT}
+use Rattle.graph_text.specs.Lines.{lines_of, onto_whole, onto_last, whole_lines, last_line, HasNoLineFeed, IsOneLine, without_last, before_line_feed, is_too_long, words_of, MAX_INPUT}
 use Rattle.graph_text.specs.Statements.{statement_of}
 use Rattle.graph_text.specs.Input.{BadLine, bad, statements_of, cause_among, cause_of, cause_shown, first_bad, shown_of, input_of, job_of_lines}
 use Rattle.graph_text.specs.ReaderState.{LinesState, TextState}
@@ -54,8 +53,8 @@ length_no_feed line e =
     let open_end : (get_or line (length line - 1) 0 == 10) ≡ false = not_ten (get_or line (length line - 1) 0) e
     in sym (before_open line (ap (λ b. b == 10) (sym (get-last line)) ∙ open_end))
   where
-  not_ten : (n : ℕ) → (n ≡ 10 → ⊥) → (n == 10) ≡ false
-  not_ten n h = grind (arith, nat_tests, h)
+    not_ten : (n : ℕ) → (n ≡ 10 → ⊥) → (n == 10) ≡ false
+    not_ten n h = grind (arith, nat_tests, h)
 
 pub length_empty : (line : List ℕ) → length line ≡ 0 → length line ≡ length (before_line_feed line)
 length_empty [] h = refl
@@ -82,9 +81,9 @@ split-line (b ∷ text) (suc k) l none here =
       is = ap (λ i. take i (b ∷ text)) next ∙ ap (λ ls. b ∷ ls) rest.is;
     }
   where
-  other : (c : Bool) → (c ≡ true → ⊥) → c ≡ false
-  other true h = absurd (h refl)
-  other false h = refl
+    other : (c : Bool) → (c ≡ true → ⊥) → c ≡ false
+    other true h = absurd (h refl)
+    other false h = refl
 
 -- the exit of a `?`
 pub answer-exit : (r : Result (Unit {0}) TextFault) (f g : TextFault) (shown : Option BadLine) → r ≡ Err g → g ≡ f → Answers {A = Unit {0}} (Err f) shown → Answers r shown
@@ -294,9 +293,9 @@ few-last before (b ∷ line) o few h =
     = map_none (bad (length before + 1)) (cause_shown before (b ∷ line)) (sym (or_none (option_map (bad (length before + 1)) (cause_shown before (b ∷ line)))) ∙ ap (first_bad cause_shown before) (sym (lines_one b line o)) ∙ h)
     in few-open before (b ∷ line) (not_long (is_too_long before (b ∷ line)) (sym (cause-open before (b ∷ line) o) ∙ none))
   where
-  not_long : (c : Bool) → too_long_cause c ≡ None → c ≡ false
-  not_long true k = absurd (let x : Some causes.TooLong ≡ None = k in cc)
-  not_long false k = refl
+    not_long : (c : Bool) → too_long_cause c ≡ None → c ≡ false
+    not_long true k = absurd (let x : Some causes.TooLong ≡ None = k in cc)
+    not_long false k = refl
 
 pub few-text : (t : TextState) (text : List ℕ) → HasText t text → t.whole.bytes ≤ MAX_INPUT → length text ≤ MAX_INPUT
 few-text t text h few =

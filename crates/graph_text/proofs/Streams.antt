@@ -1,13 +1,12 @@
 -- How the lines of a text change as the text grows.
-use Rattle.std.proofs.Common.{◌≡◌, ℕ, ◌+◌, ◌<◌, ◌≤◌, Bool, true, false, cond, ◌||◌, ◌==◌, List, [], ◌∷◌, ◌++◌, length, Option, Some, None, refl, sym, ◌∙◌, ap, subst, arith, append_assoc, append-nil, nat_lt}
-use Rattle.std.proofs.lemmas.Option.{same_Some}
-use Rattle.std.specs.Prelude.{option_map, flat_map}
+use Rattle.std.proofs.Common.{◌≡◌, ℕ, ◌+◌, ◌<◌, Bool, true, false, cond, ◌||◌, ◌==◌, List, [], ◌∷◌, ◌++◌, length, Option, Some, None, refl, sym, ◌∙◌, ap, subst, arith, append_assoc, append-nil}
+use Rattle.std.specs.Prelude.{option_map}
 use Rattle.std.specs.Option.{option_or}
 use Rattle.graph_text.specs.declared.fault.Why.{Why}
 use Rattle.graph_text.specs.declared.fault.Why.TheVariants as causes
-use Rattle.graph_text.specs.Lines.{lines_of, onto_whole, onto_last, whole_lines, last_line, HasNoLineFeed, IsOneLine, without_last, is_ended, is_too_long, MAX_LINE, MAX_INPUT}
+use Rattle.graph_text.specs.Lines.{lines_of, onto_whole, onto_last, whole_lines, last_line, HasNoLineFeed, IsOneLine, is_ended, is_too_long}
 use Rattle.graph_text.specs.Input.{BadLine, bad, cause_of, cause_shown, first_bad, shown_of}
-use Rattle.graph_text.proofs.Cuts.{lines-front, AreEnded, whole_are_ended, last_has_no_line_feed, not_ended, GoesOn, goes_on, too_long_stays, without-same, lines_one, first_bad-append, first_bad-ended, cause_ended, cause_open}
+use Rattle.graph_text.proofs.Cuts.{lines-front, whole_are_ended, last_has_no_line_feed, not_ended, GoesOn, goes_on, too_long_stays, lines_one, first_bad-append, first_bad-ended, cause_ended, cause_open}
 
 -- The whole lines and the last line of a text that goes on.
 

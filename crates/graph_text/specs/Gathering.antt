@@ -1,5 +1,5 @@
 -- What has been gathered of the statements so far.
-use Rattle.std.specs.Prelude.{◌≡◌, ℕ, ◌<◌, Bool, false, List, [], ◌∷◌, filter_map, ⊤}
+use Rattle.std.specs.Prelude.{◌≡◌, ℕ, ◌<◌, false, List, [], ◌∷◌, filter_map, ⊤}
 use Rattle.std.specs.List.Sorted.{IsPermutation}
 use Rattle.graph_text.specs.declared.statement.Statement.{Statement}
 use Rattle.graph_text.specs.ReaderState.{GatheredState}

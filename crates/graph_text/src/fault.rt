@@ -4,22 +4,35 @@ use std::alloc::{AllocError, AllocFailed};
 /// Why a line is bad.
 #[derive(Clone, Copy, Debug, PartialEq, Eq)]
 pub enum Why {
+    /// The first word, or the one behind `query`, is none that is built.
     Word,
+    /// A word in the place of a number is none below 2^64.
     Number,
+    /// The line has more or fewer words than its form.
     Count,
+    /// A number lies outside its range, 0 to 4,294,967,295.
     Range,
+    /// The line repeats one that may stand once.
     Twice,
+    /// The line is edge line 4,000,001, or brings vertex 1,000,001.
     TooMany,
+    /// The line behind the last: there is no query.
     NoQuery,
+    /// The line behind the last: the query's vertex stands in no edge.
     NoSource,
+    /// The line behind the last: the query's pattern isn't whole.
     NoPattern,
+    /// The line has more than 4,096 bytes before its line feed, or byte 268,435,457 of the input. This comes before all
+    /// other causes.
     TooLong,
 }
 
 /// Why an input is refused.
 #[derive(Clone, Copy, Debug, PartialEq, Eq)]
 pub enum TextFault {
+    /// This is the first bad line; lines are counted from 1.
     Bad { line: u64, why: Why },
+    /// Memory ran out.
     NoMemory,
 }
 

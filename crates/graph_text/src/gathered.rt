@@ -15,17 +15,21 @@ use std::alloc::Global;
 use std::collections::HashSet;
 
 const MAX_EDGES: usize = 4_000_000;
+
 const MAX_VERTICES: usize = 1_000_000;
 
 /// What the lines so far have said.
 #[derive(Drop)]
 pub(crate) struct Gathered {
     query: Option<Question>,
+    /// In the order of their lines, by vertex numbers.
     edges: Vec<Edge>,
+    /// The vertices: each number that stands in an edge.
     numbers: HashSet<u32>,
 }
 
 impl Gathered {
+    /// Nothing was said.
     pub(crate) fn new(alloc: Global) -> Gathered
         ensures { Holds (gathered_state result) [] }
     {
@@ -48,18 +52,20 @@ impl Gathered {
         }
     }
 
+    /// Takes the query. A second one is bad.
     fn ask(&mut self, line: u64, question: Question) -> Result<(), TextFault>
         ensures answer { (ss : List Said) → Holds (gathered_state self.old) ss → Answers result (option_map (bad line) (cause_among ss (Ok (Statement.Asks question)))) }
         ensures ok { OnOk result ((ss : List Said) → Holds (gathered_state self.old) ss → Holds (gathered_state self.new) (ss ++ Statement.Asks question ∷ [])) }
     {
+        let why = Why::Twice;
         if self.query.is_some() {
-            let why = Why::Twice;
             return Err(TextFault::Bad { line, why });
         }
         self.query = Some(question);
         Ok(())
     }
 
+    /// Takes an edge. One edge or one vertex too many is bad.
     fn join(&mut self, line: u64, edge: Edge) -> Result<(), TextFault>
         ensures answer { (ss : List Said) → Holds (gathered_state self.old) ss → Answers result (option_map (bad line) (cause_among ss (Ok (Statement.Joins edge)))) }
         ensures ok { OnOk result ((ss : List Said) → Holds (gathered_state self.old) ss → Holds (gathered_state self.new) (ss ++ Statement.Joins edge ∷ [])) }

@@ -1,4 +1,11 @@
-//! The lines of an input.
+//! Which job the lines of an input are, or which line is the first bad one, and why.
+//!
+//! [`LineReader`] is given the bytes in pieces, cut in any way, and answers as for the whole. A bad line is answered by
+//! the piece that ends it, or that makes it too long. It keeps what the lines say, and of the text no more than one line
+//! that a piece cut.
+//!
+//! What the words of one line say is read without the others (module `statement`); which
+//! lines repeat another, or are too many, stands in module `gathered`.
 #![tactic(auto)]
 
 mod fault;
@@ -7,6 +14,8 @@ mod laws;
 mod line_reader;
 mod open_text;
 mod statement;
+#[cfg(test)]
+mod tests;
 mod whole_lines;
 mod words;
 mod worked;

@@ -12,8 +12,8 @@ use graph_core::Job;
 use std::alloc::Global;
 use std::marker::Model;
 
-/// Reads the lines of an input that comes in pieces. It keeps what the lines say and no text but that of a line that
-/// hasn't ended, of which it keeps at most 4,096 bytes.
+/// Reads the lines of an input that comes in pieces. It keeps what the lines say, and of the text at most 4,096 bytes: a
+/// line that hasn't ended.
 #[derive(Drop)]
 pub struct LineReader {
     text: OpenText,
@@ -32,7 +32,7 @@ impl Model for LineReader {
 }
 
 impl LineReader {
-    /// A reader that has read nothing.
+    /// A reader that has read nothing, with room for a line.
     pub fn new(alloc: Global) -> Result<LineReader, NoMemory>
         ensures { IfOk result (λ reader. HasRead reader []) }
     {
@@ -41,7 +41,9 @@ impl LineReader {
         Ok(LineReader { text, fault })
     }
 
-    /// Reads the next piece. However the text was cut, the answer is that of the text so far.
+    /// Reads the next piece. However the text was cut, the answer is that of the text so far: `Bad` of its first bad line
+    /// exactly where that is shown, which is when the line has ended or is too long. `NoMemory` comes only where memory
+    /// ran out. A line that lies whole in the piece isn't copied.
     pub fn feed(&mut self, piece: &[u8]) -> Result<(), TextFault>
         ensures answer { (text : List ℕ) → HasRead self.old text → Answers result (shown_of (text ++ piece.now)) }
         ensures ok { OnOk result ((text : List ℕ) → HasRead self.old text → HasRead self.new (text ++ piece.now)) }
@@ -61,7 +63,8 @@ impl LineReader {
         answer
     }
 
-    /// The job that the whole text is.
+    /// The job that the whole text is, or `Bad` of its first bad line. Where no line is bad and they make no job, that is
+    /// the line behind the last.
     pub fn finish(self) -> Result<Job, TextFault>
         ensures answer { (text : List ℕ) → HasRead self text → Gives result (input_of text) }
         ensures again { (fault : TextFault) → HasFailed self fault → result ≡ Err fault }

@@ -3,8 +3,8 @@ ghost use Rattle.graph_text.specs.Lines.{HasNoLineFeed, IsOneLine};
 
 use crate::fault::TextFault;
 use crate::whole_lines::WholeLines;
-use graph_core::Job;
 use grape_port::NoMemory;
+use graph_core::Job;
 use memchr::memchr;
 use std::alloc::Global;
 
@@ -25,6 +25,7 @@ impl OpenText {
     ghost use Rattle.graph_text.specs.ReaderState.{text_state};
     ghost use Rattle.graph_text.specs.Reader.{HasText, Answers, Gives};
 
+    /// No text, and room for a line.
     pub(crate) fn new(alloc: Global) -> Result<OpenText, NoMemory>
         ensures { IfOk result (λ text. HasText (text_state text) []) }
     {
@@ -37,7 +38,7 @@ impl OpenText {
         }
     }
 
-    /// Reads the next bytes of the text.
+    /// Reads the next bytes of the text, in time linear in their number. After a fault what is kept is of no use.
     pub(crate) fn read(&mut self, piece: &[u8]) -> Result<(), TextFault>
         ensures answer { (text : List ℕ) → HasText (text_state self.old) text → Answers result (shown_of (text ++ piece.now)) }
         ensures ok { OnOk result ((text : List ℕ) → HasText (text_state self.old) text → HasText (text_state self.new) (text ++ piece.now)) }

@@ -7,7 +7,9 @@ use crate::statement::{Statement, read_statement};
 use graph_core::Job;
 use std::alloc::Global;
 
+/// The most bytes of a line before its line feed, and of an input.
 const MAX_LINE: u64 = 4_096;
+
 const MAX_INPUT: u64 = 268_435_456;
 
 /// The lines of a text that were judged: how many, how many bytes, and what they say.
@@ -28,6 +30,7 @@ impl WholeLines {
     ghost use Rattle.graph_text.specs.Gathering.{Holds};
     ghost use Rattle.graph_text.specs.Reader.{HasLines, Answers, Gives};
 
+    /// No lines.
     pub(crate) fn new(alloc: Global) -> WholeLines
         ensures { HasLines (lines_state result) [] }
     {
@@ -54,7 +57,8 @@ impl WholeLines {
         TextFault::Bad { line, why }
     }
 
-    /// Takes the next line, with its line feed if it has one.
+    /// Takes the next line, with its line feed if it has one. The answer is that of the line behind those before it. After
+    /// a fault what is kept is of no use.
     pub(crate) fn take(&mut self, line: &[u8]) -> Result<(), TextFault>
         requires { 0 < length line.now }
         ensures answer { (lines : List (List ℕ)) → HasLines (lines_state self.old) lines → Answers result (option_map (bad (length lines + 1)) (cause_of lines line.now)) }

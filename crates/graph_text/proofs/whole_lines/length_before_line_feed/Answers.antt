@@ -9,6 +9,6 @@ returns-then-line-eq10 c = length_before_feed c.args.line.now (some_bytes (lengt
 pub returns-else-not-is_empty : goal.returns-else-not-is_empty
 returns-else-not-is_empty c =
     elim c.else-not-is_empty.branch [
-      else-not-is_empty-via-then-not-is_empty+else-line-eq10 w ↦ length_no_feed c.args.line.now w.if-line-eq10.false
+      | else-not-is_empty-via-then-not-is_empty+else-line-eq10 w ↦ length_no_feed c.args.line.now w.if-line-eq10.false
       | else-not-is_empty-via-else-not-is_empty w ↦ length_empty c.args.line.now (is_zero (length c.args.line.now) (sym c.is_empty.ensures ∙ w.if-not-is_empty.false))
     ]

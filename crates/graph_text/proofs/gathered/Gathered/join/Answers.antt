@@ -1,6 +1,5 @@
-use Rattle.std.proofs.Common.{◌≡◌, ◌<◌, ◌≤◌, length, arith, ap, refl}
+use Rattle.std.proofs.Common.{length, arith, ap, refl}
 use Rattle.std.specs.Prelude.{option_map}
-use Rattle.graph_core.specs.Graphs.{MAX_EDGES}
 use Rattle.graph_text.specs.ReaderState.{gathered_state}
 use Rattle.graph_text.specs.Input.{bad, vertex_numbers, insert_number}
 use Rattle.graph_text.specs.Gathering.{AreNumbers}

@@ -7,6 +7,6 @@ use Rattle.graph_text.proofs.line_reader.LineReader.feed.Goals as goal
 pub returns-in_default-answer-clause-few : goal.returns-in_default-answer-clause-few
 returns-in_default-answer-clause-few c =
     rw c.in_default-answer.is (λ text h.
-        few-text (text_state c.read-answer.new.self) (text ++ c.args.piece.now)
-        (c.in_default-answer.ensures.ok text (subst (λ t. HasText t text) (ap (λ r. r.text) (sym c.self.view_is)) h.reads))
-        c.read-answer.new.self.whole.few_bytes)
+    few-text (text_state c.read-answer.new.self) (text ++ c.args.piece.now)
+    (c.in_default-answer.ensures.ok text (subst (λ t. HasText t text) (ap (λ r. r.text) (sym c.self.view_is)) h.reads))
+    c.read-answer.new.self.whole.few_bytes)

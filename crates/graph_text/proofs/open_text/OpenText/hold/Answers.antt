@@ -1,4 +1,4 @@
-use Rattle.std.proofs.Common.{◌≡◌, ◌<◌, ℕ, List, ◌++◌, length, refl, sym, subst, ◌∙◌, arith, Err}
+use Rattle.std.proofs.Common.{◌++◌, length, refl, sym, subst, ◌∙◌, arith, Err}
 use Rattle.graph_text.specs.Input.{shown_of}
 use Rattle.graph_text.specs.ReaderState.{text_state}
 use Rattle.graph_text.specs.Reader.{Answers}

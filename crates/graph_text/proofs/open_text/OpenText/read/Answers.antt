@@ -1,4 +1,4 @@
-use Rattle.std.proofs.Common.{◌≡◌, List, ◌++◌, sym, ap, subst, ◌∙◌, append_assoc, Err}
+use Rattle.std.proofs.Common.{◌++◌, ap, subst, ◌∙◌, append_assoc, Err}
 use Rattle.std.proofs.lemmas.Result.{err_from_is_err_and}
 use Rattle.graph_text.specs.Input.{shown_of}
 use Rattle.graph_text.specs.ReaderState.{text_state}

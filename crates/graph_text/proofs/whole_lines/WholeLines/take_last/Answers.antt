@@ -1,7 +1,6 @@
-use Rattle.std.proofs.Common.{length, sym, subst, ap, ◌++◌, ◌∙◌}
-use Rattle.std.specs.Result.{OnOk}
+use Rattle.std.proofs.Common.{length, sym, subst, ◌∙◌}
 use Rattle.graph_text.specs.ReaderState.{lines_state}
-use Rattle.graph_text.specs.Reader.{Answers, HasLines}
+use Rattle.graph_text.specs.Reader.{Answers}
 use Rattle.graph_text.proofs.Reading.{first-last, some_bytes, lines-last}
 use Rattle.graph_text.proofs.whole_lines.WholeLines.take_last.Goals as goal
 
