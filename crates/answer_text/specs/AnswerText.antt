@@ -27,19 +27,27 @@ abbrev pub numbers_text : List ℕ → List ℕ
 numbers_text [] = codes "-"
 numbers_text (n ∷ ns) = join_with_byte 44 (map decimal (n ∷ ns))
 
+-- the numbers of the bits of a mask, in rising order
+unfoldable pub bits_of : ℕ → List ℕ
+bits_of mask = filter (has_bit mask) (range_with_len 0 64)
+
 -- a distance or `far`, a number, `yes` for 0 and else `no`, or the bits of a mask
 abbrev pub value_text : Kind → ℕ → List ℕ
 value_text kind.Dist value = if value == FAR then codes "far" else decimal value
 value_text kind.Label value = decimal value
 value_text kind.Reach value = if value == 0 then codes "yes" else codes "no"
-value_text kind.Sim value = numbers_text (filter (has_bit value) (range_with_len 0 64))
+value_text kind.Sim value = numbers_text (bits_of value)
 
 abbrev pub row_text : Kind → AnswerRow → List ℕ
 row_text kind row = decimal row.id ++ codes " " ++ value_text kind row.value ++ codes "\n"
 
--- a first line with the kind and the number of rows, a line for each row, and a last line
+-- the kind, and how many rows come
+abbrev pub head_text : Kind → ℕ → List ℕ
+head_text kind count = codes "answer " ++ kind_text kind ++ codes " " ++ decimal count ++ codes "\n"
+
+-- a first line, a line for each row, and a last line
 abbrev pub answer_text : Kind → List AnswerRow → List ℕ
-answer_text kind rows = codes "answer " ++ kind_text kind ++ codes " " ++ decimal (length rows) ++ codes "\n" ++ flat_map (row_text kind) rows ++ codes "end\n"
+answer_text kind rows = head_text kind (length rows) ++ flat_map (row_text kind) rows ++ codes "end\n"
 
 abbrev pub kind_of : Query → Kind
 kind_of (query.Dist source) = kind.Dist

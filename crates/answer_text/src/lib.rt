@@ -1,8 +1,16 @@
 //! Answers as text.
+//!
+//! [`write_answer`] writes an [`Answer`] to a sink: exactly its text, or, where the sink fails, a
+//! front of it.
 #![tactic(auto)]
 
 mod answer;
+mod piece;
+#[cfg(test)]
+mod tests;
 mod worked;
+mod write;
 
-pub use answer::{AnswerRow, Kind};
+pub use answer::{Answer, AnswerRow, Kind};
 pub use worked::rows;
+pub use write::write_answer;

@@ -3,7 +3,7 @@ ghost use Rattle.graph_core.specs.Digraph.{count_of, number_at, label_at, index_
 
 use crate::copies::copy_of;
 use crate::edge::Edge;
-use crate::numbering::{edges_by_index, place_of};
+use crate::numbering::{place_of, placed_edges};
 use grape_port::NoMemory;
 use std::alloc::Global;
 use std::marker::Model;
@@ -32,19 +32,16 @@ impl Model for Graph {
 impl Graph {
     /// The graph of these vertices, pairs of number and label, and of these edges between their numbers.
     ///
-    /// It takes the time of a look-up for each end of an edge and of one sort of the edges.
+    /// It takes the time of a sort of the edges, and of another one where numbers are missing between the
+    /// first and the last.
     pub fn build(alloc: Global, vertices: &[(u32, u32)], edges: &[Edge]) -> Result<Graph, NoMemory>
         requires { MakeGraph vertices.now edges.now }
         ensures exact { IfOk result (λ graph. graph ≡ graph_of vertices.now edges.now) }
         ensures made { IfOk result IsGraph }
     {
-        let mut placed = edges_by_index(alloc, vertices, edges)?;
-        placed.sort_unstable();
+        let edges = placed_edges(alloc, vertices, edges)?;
         let vertices = copy_of(alloc, vertices)?;
-        Ok(Graph {
-            vertices,
-            edges: placed,
-        })
+        Ok(Graph { vertices, edges })
     }
 
     /// How many vertices the graph has, at most 1,000,000.

@@ -1,4 +1,4 @@
-ghost use Rattle.std.specs.Prelude.{◌==◌, if◌then◌else◌, ◌≡◌, ◌<◌};
+ghost use Rattle.std.specs.Prelude.{◌==◌, if◌then◌else◌, ◌≡◌, ◌<◌, IfOk};
 ghost use Rattle.graph_core.specs.Graphs.{count_of, IsPattern, IsJob};
 ghost use Rattle.graph_core.specs.declared.query.Query.{Query};
 ghost use Rattle.graph_core.specs.declared.job.Job.{Job};
@@ -10,7 +10,10 @@ use crate::graph::Graph;
 use crate::pattern::Pattern;
 use crate::query::Query;
 use crate::settings::Settings;
+use grape_port::NoMemory;
+use std::alloc::Global;
 
+/// A query on a graph, and how it is run.
 #[derive(Drop)]
 pub struct Job {
     pub graph: Graph,
@@ -19,7 +22,9 @@ pub struct Job {
 }
 
 impl Job {
-    /// The value with which the vertex with this index starts.
+    /// The value with which the vertex with this index starts, and from which it falls: for distances 0 at
+    /// the source and else `FAR`, for labels the vertex's number, for reachability 0 at the source and
+    /// else 1, and for a simulation the bits of the pattern nodes with the vertex's label.
     pub fn start_of(&self, vertex: u32) -> u64
         requires job { IsJob self.now }
         requires vertex { vertex < count_of self.now.graph }
@@ -31,6 +36,20 @@ impl Job {
             Query::Reach(source) => zero_at(self.graph.id(vertex), *source, 1),
             Query::Sim(pattern) => nodes_with_label(pattern, self.graph.label(vertex)),
         }
+    }
+
+    /// An equal job.
+    pub fn copy(&self, alloc: Global) -> Result<Job, NoMemory>
+        ensures { IfOk result (λ copy. copy ≡ self.now) }
+    {
+        let graph = self.graph.copy(alloc)?;
+        let query = self.query.copy(alloc)?;
+        let settings = self.settings;
+        Ok(Job {
+            graph,
+            query,
+            settings,
+        })
     }
 }
 

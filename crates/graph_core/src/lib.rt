@@ -1,4 +1,8 @@
-//! Graphs, queries and jobs; the equations of a query; the fragments of a graph.
+//! Graphs, queries and jobs, the equations of a query, and the fragments of a graph.
+//!
+//! It promises that a graph holds exactly the vertices and edges that it was built from, in order, that
+//! the equations of each query have one greatest solution, and that this is what the query asks for. The
+//! readers of text stand above it, and so does all that evaluates: they share its definitions.
 #![tactic(auto)]
 
 mod copies;
@@ -29,5 +33,8 @@ pub use row_table::Rows;
 pub use settings::{Cut, Policy, Settings};
 pub use worked::{row_values, rows};
 
-/// Stands for a vertex that no walk leads to.
+/// The distance of a vertex that no walk leads to, 2^52: every distance along a walk is smaller.
 pub const FAR: u64 = 4_503_599_627_370_496;
+
+#[cfg(test)]
+mod tests;

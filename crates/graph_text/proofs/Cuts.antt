@@ -7,25 +7,8 @@ use Rattle.std.specs.List.{onto_first, AllByRecursion}
 use Rattle.std.specs.Option.{option_or}
 use Rattle.graph_text.specs.declared.fault.Why.{Why}
 use Rattle.graph_text.specs.declared.fault.Why.TheVariants as causes
-use Rattle.graph_text.specs.Lines.{lines_of, without_last, is_ended, is_too_long, MAX_LINE, MAX_INPUT}
+use Rattle.graph_text.specs.Lines.{lines_of, onto_whole, onto_last, whole_lines, last_line, HasNoLineFeed, without_last, is_ended, is_too_long, MAX_LINE, MAX_INPUT}
 use Rattle.graph_text.specs.Input.{BadLine, bad, cause_of, cause_shown, first_bad}
-
--- the lines of a front that have ended, and what has come of the next
-abbrev pub onto_whole : ℕ → List (List ℕ) → List (List ℕ)
-onto_whole b [] = []
-onto_whole b (line ∷ lines) = (b ∷ line) ∷ lines
-
-abbrev pub onto_last : ℕ → List (List ℕ) → List ℕ → List ℕ
-onto_last b [] last = b ∷ last
-onto_last b (line ∷ lines) last = last
-
-abbrev pub whole_lines : List ℕ → List (List ℕ)
-whole_lines [] = []
-whole_lines (b ∷ front) = cond (b == 10) ((b ∷ []) ∷ whole_lines front) (onto_whole b (whole_lines front))
-
-abbrev pub last_line : List ℕ → List ℕ
-last_line [] = []
-last_line (b ∷ front) = cond (b == 10) (last_line front) (onto_last b (whole_lines front) (last_line front))
 
 lines_step : (c : Bool) (b : ℕ) (whole : List (List ℕ)) (last rest : List ℕ) (all : List (List ℕ)) → (b == 10) ≡ c → all ≡ whole ++ lines_of (last ++ rest)
     → cond c ((b ∷ []) ∷ all) (onto_first b all) ≡ cond c ((b ∷ []) ∷ whole) (onto_whole b whole) ++ lines_of (cond c last (onto_last b whole last) ++ rest)
@@ -37,10 +20,6 @@ lines_step false b (line ∷ whole) last rest all e h = ap (onto_first b) h
 pub lines-front : (front rest : List ℕ) → lines_of (front ++ rest) ≡ whole_lines front ++ lines_of (last_line front ++ rest)
 lines-front [] rest = refl
 lines-front (b ∷ front) rest = lines_step (b == 10) b (whole_lines front) (last_line front) rest (lines_of (front ++ rest)) refl (lines-front front rest)
-
--- no byte of a list is a line feed
-abbrev pub HasNoLineFeed : List ℕ → Type 0
-HasNoLineFeed bytes = AllByRecursion (λ b. (b == 10) ≡ false) bytes
 
 abbrev pub AreEnded : List (List ℕ) → Type 0
 AreEnded lines = AllByRecursion (λ line. is_ended line ≡ true) lines
@@ -94,7 +73,7 @@ without-le (b ∷ []) [] h = rw h.0 (omega arith)
 without-le (b ∷ []) (s ∷ start) h = omega arith
 without-le (b ∷ c ∷ line) start h = omega (arith, without-le (c ∷ line) start h.1)
 
-without-same : (line : List ℕ) → HasNoLineFeed line → without_last 10 line ≡ line
+pub without-same : (line : List ℕ) → HasNoLineFeed line → without_last 10 line ≡ line
 without-same [] h = refl
 without-same (b ∷ []) h = rw h.0 refl
 without-same (b ∷ c ∷ line) h = ap (λ l. b ∷ l) (without-same (c ∷ line) h.1)
@@ -131,7 +110,7 @@ first_bad-append cause before (x ∷ xs) ys =
     ∙ option_or_assoc o (first_bad cause (before ++ x ∷ []) xs) (first_bad cause (before ++ x ∷ [] ++ xs) ys)
     ∙ ap (λ b. option_or (option_or o (first_bad cause (before ++ x ∷ []) xs)) (first_bad cause b ys)) moved
 
-cause_ended : (before : List (List ℕ)) (line : List ℕ) → is_ended line ≡ true → cause_shown before line ≡ cause_of before line
+pub cause_ended : (before : List (List ℕ)) (line : List ℕ) → is_ended line ≡ true → cause_shown before line ≡ cause_of before line
 cause_ended before line e = rw e refl
 
 -- of lines that have ended, what is bad so far is what is bad
@@ -142,7 +121,7 @@ first_bad-ended before (line ∷ lines) h =
     ∙ ap (option_or (option_map (bad (length before + 1)) (cause_of before line))) (first_bad-ended (before ++ line ∷ []) lines h.1)
 
 -- a line that goes on is bad so far only if it is too long
-cause_open : (before : List (List ℕ)) (line : List ℕ) (why : Why) → is_ended line ≡ false → cause_shown before line ≡ Some why → (is_too_long before line ≡ true) × (why ≡ causes.TooLong)
+pub cause_open : (before : List (List ℕ)) (line : List ℕ) (why : Why) → is_ended line ≡ false → cause_shown before line ≡ Some why → (is_too_long before line ≡ true) × (why ≡ causes.TooLong)
 cause_open before line why e h = open_step (is_ended line) (is_too_long before line) e refl h where
   open_step : (c d : Bool) → c ≡ false → is_too_long before line ≡ d → cond (c || d) (cause_of before line) None ≡ Some why → (is_too_long before line ≡ true) × (why ≡ causes.TooLong)
   open_step false false e f h = absurd (let x : None ≡ Some why = h in cc)
@@ -153,7 +132,7 @@ cause_open before line why e h = open_step (is_ended line) (is_too_long before l
 shown_whole : (whole more : List (List ℕ)) (b : BadLine) → AreEnded whole → first_bad cause_shown [] whole ≡ Some b → first_bad cause_of [] (whole ++ more) ≡ Some b
 shown_whole whole more b ended h = first_bad-append cause_of [] whole more ∙ ap (λ o. option_or o (first_bad cause_of whole more)) (sym (first_bad-ended [] whole ended) ∙ h)
 
-lines_one : (b : ℕ) (line : List ℕ) → HasNoLineFeed (b ∷ line) → lines_of (b ∷ line) ≡ (b ∷ line) ∷ []
+pub lines_one : (b : ℕ) (line : List ℕ) → HasNoLineFeed (b ∷ line) → lines_of (b ∷ line) ≡ (b ∷ line) ∷ []
 lines_one b [] h = rw h.0 refl
 lines_one b (c ∷ line) h = rw h.0 (ap (onto_first b) (lines_one c line h.1))
 

@@ -1,16 +1,35 @@
 -- What a reader of lines has read.
-use Rattle.std.specs.Prelude.{◌≡◌, ℕ, List, Option, Some, None, Result, Ok, Err, ⊤}
+use Rattle.std.specs.Prelude.{◌≡◌, ℕ, List, [], length, flat_map, Option, Some, None, Result, Ok, Err, ⊤}
 use Rattle.graph_core.specs.declared.job.Job.{Job}
 use Rattle.graph_text.specs.declared.fault.TextFault.{TextFault}
 use Rattle.graph_text.specs.declared.fault.TextFault.TheVariants as fault
-use Rattle.graph_text.specs.Input.{BadLine, bad, shown_of}
-use Rattle.graph_text.specs.ReaderState.{ReaderState}
+use Rattle.graph_text.specs.Lines.{whole_lines, last_line}
+use Rattle.graph_text.specs.Gathering.{Holds}
+use Rattle.graph_text.specs.Input.{BadLine, bad, statements_of, first_bad, cause_of, shown_of}
+use Rattle.graph_text.specs.ReaderState.{LinesState, TextState, ReaderState}
+
+-- These are the whole lines, of which none is bad: how many, how long, and what they say.
+pub record HasLines (w : LinesState) (lines : List (List ℕ)) : Type 0 where
+  pub count : w.count ≡ length lines
+  pub bytes : w.bytes ≡ length (flat_map (λ l. l) lines)
+  pub says : Holds w.gathered (statements_of lines)
+  pub none_bad : first_bad cause_of [] lines ≡ None
+
+-- This is the text, which shows no bad line: its whole lines, and the bytes behind them.
+pub record HasText (t : TextState) (text : List ℕ) : Type 0 where
+  pub whole : HasLines t.whole (whole_lines text)
+  pub line : t.line ≡ last_line text
+  pub none_shown : shown_of text ≡ None
+
+-- A reader that has answered no fault has some text.
+abbrev pub IsSound : TextState → Option TextFault → Type 0
+IsSound t None = (text : List ℕ) × HasText t text
+IsSound t (Some f) = ⊤
 
 -- The reader has read this text and no more, and has answered no fault.
 pub record HasRead (r : ReaderState) (text : List ℕ) : Type 0 where
-  pub text_is : r.text ≡ text
+  pub reads : HasText r.text text
   pub no_fault : r.fault ≡ None
-  pub none_shown : shown_of text ≡ None
 
 -- The reader has answered this fault.
 abbrev pub HasFailed : ReaderState → TextFault → Type 0

@@ -2,9 +2,12 @@
 #![tactic(auto)]
 
 mod fault;
+mod gathered;
 mod laws;
 mod line_reader;
+mod open_text;
 mod statement;
+mod whole_lines;
 mod words;
 mod worked;
 

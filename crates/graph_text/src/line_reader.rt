@@ -1,28 +1,34 @@
-ghost use Rattle.std.specs.Prelude.{◌≡◌, ℕ, ◌++◌, List, [], IfErr, OnOk, IfOk};
+ghost use Rattle.std.specs.Prelude.{◌≡◌, ◌≤◌, ℕ, ◌++◌, List, [], length, IfErr, OnOk, IfOk};
 ghost use Rattle.graph_core.specs.Graphs.{IsJob};
 ghost use Rattle.graph_text.specs.declared.fault.TextFault.{TextFault};
+ghost use Rattle.graph_text.specs.Lines.{MAX_INPUT};
 ghost use Rattle.graph_text.specs.Input.{input_of, shown_of, IsBuilt};
 ghost use Rattle.graph_text.specs.Reader.{HasRead, HasFailed, Answers, Gives};
 
 use crate::fault::TextFault;
+use crate::open_text::OpenText;
 use grape_port::NoMemory;
 use graph_core::Job;
 use std::alloc::Global;
 use std::marker::Model;
 
-/// Reads the lines of an input that comes in pieces.
+/// Reads the lines of an input that comes in pieces. It keeps what the lines say and no text but that of a line that
+/// hasn't ended, of which it keeps at most 4,096 bytes.
 #[derive(Drop)]
 pub struct LineReader {
-    text: Vec<u8>,
+    text: OpenText,
     fault: Option<TextFault>,
 }
 
 impl Model for LineReader {
-    ghost use Rattle.graph_text.specs.ReaderState.{ReaderState};
+    ghost use Rattle.graph_text.specs.ReaderState.{ReaderState, text_state};
+    ghost use Rattle.graph_text.specs.Reader.{IsSound};
 
     ghost Value = { ReaderState };
 
-    ghost view = { λ r. record { text = r.text.items; fault = r.fault } };
+    ghost view = { λ r. record { text = text_state r.text; fault = r.fault } };
+
+    ghost invariant = { λ r. IsSound (text_state r.text) r.fault };
 }
 
 impl LineReader {
@@ -30,16 +36,16 @@ impl LineReader {
     pub fn new(alloc: Global) -> Result<LineReader, NoMemory>
         ensures { IfOk result (λ reader. HasRead reader []) }
     {
-        Ok(LineReader {
-            text: Vec::new(alloc),
-            fault: None,
-        })
+        let text = OpenText::new(alloc)?;
+        let fault = None;
+        Ok(LineReader { text, fault })
     }
 
     /// Reads the next piece. However the text was cut, the answer is that of the text so far.
     pub fn feed(&mut self, piece: &[u8]) -> Result<(), TextFault>
         ensures answer { (text : List ℕ) → HasRead self.old text → Answers result (shown_of (text ++ piece.now)) }
         ensures ok { OnOk result ((text : List ℕ) → HasRead self.old text → HasRead self.new (text ++ piece.now)) }
+        ensures few { OnOk result ((text : List ℕ) → HasRead self.old text → length (text ++ piece.now) ≤ MAX_INPUT) }
 
         // A fault stays: this call answers it again, and so does each later one.
         ensures err { IfErr result (HasFailed self.new) }
@@ -48,8 +54,11 @@ impl LineReader {
         if let Some(fault) = self.fault {
             return Err(fault);
         }
-        self.fault = Some(TextFault::NoMemory);
-        Err(TextFault::NoMemory)
+        let answer = self.text.read(piece);
+        if let Err(fault) = answer {
+            self.fault = Some(fault);
+        }
+        answer
     }
 
     /// The job that the whole text is.
@@ -59,9 +68,10 @@ impl LineReader {
         ensures job { IfOk result IsJob }
         ensures built { IfOk result (λ job. IsBuilt job.query) }
     {
-        if let Some(fault) = self.fault {
-            return Err(fault);
+        let LineReader { text, fault } = self;
+        match fault {
+            Some(fault) => Err(fault),
+            None => text.finish(),
         }
-        Err(TextFault::NoMemory)
     }
 }

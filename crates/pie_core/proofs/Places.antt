@@ -8,7 +8,7 @@ use Rattle.std.proofs.lemmas.List.{get_or-set_same, get_or-set_other, get_or-rep
 use Rattle.std.proofs.lemmas.List.Folds.{list_any-append}
 use Rattle.std.proofs.lemmas.Map.Keys.{IsDistinct-head, IsDistinct-tail, IsDistinct-push}
 use Rattle.std.proofs.lemmas.Map.Steps.{length-le_from_distinct_below}
-use Rattle.pie_core.specs.PlaceLists.{waits, IsKept}
+use Rattle.pie_core.specs.PlaceLists.{waits, IsKept, IsPlaceList}
 
 pub kept_new : (n capacity : ℕ) → n ≤ capacity → IsKept (replicate n false) [] capacity
 unfolding IsDistinct
@@ -106,3 +106,29 @@ module _ (is_listed : List Bool) (place : ℕ) (waiting : List ℕ) (capacity : 
     distinct = IsDistinct-tail nat_eq place waiting kept.distinct;
     room = omega (arith, kept.room, length-set is_listed place false);
   }
+
+-- what a list of places is known by
+pub kept_list : (is_listed : List Bool) (waiting : List ℕ) (capacity room : ℕ) → room ≡ length is_listed → IsKept is_listed waiting capacity → IsPlaceList (record { room = room; waiting = waiting })
+kept_list is_listed waiting capacity room e kept = record {
+  in_room = λ place h. subst (λ n. place < n) (sym e) (kept.in_room place h);
+  distinct = kept.distinct;
+  few = subst (λ n. length waiting ≤ n) (sym e) (length-le_from_distinct_below waiting (length is_listed) kept.distinct kept.in_room);
+}
+
+-- the same where the lists are known by equations
+pub made_new : (is_listed : List Bool) (waiting : List ℕ) (capacity n : ℕ) → is_listed ≡ replicate n false → waiting ≡ [] → n ≤ capacity → IsKept is_listed waiting capacity
+made_new is_listed waiting capacity n tests none fits =
+    subst (λ l. IsKept l waiting capacity) (sym tests) (subst (λ w. IsKept (replicate n false) w capacity) (sym none) (kept_new n capacity fits))
+
+pub made_push : (is_listed : List Bool) (waiting after : List ℕ) (capacity capacity' place : ℕ) → IsKept is_listed waiting capacity → place < length is_listed
+    → get_or is_listed place false ≡ false → after ≡ waiting ++ place ∷ [] → capacity' ≡ capacity → IsKept (set is_listed place true) after capacity'
+made_push is_listed waiting after capacity capacity' place kept inside new w c =
+    subst (λ n. IsKept (set is_listed place true) after n) (sym c) (subst (λ ws. IsKept (set is_listed place true) ws capacity) (sym w) (kept_push is_listed waiting capacity place kept inside new))
+
+pub made_pop : (is_listed : List Bool) (waiting after : List ℕ) (capacity capacity' place : ℕ) → IsKept is_listed waiting capacity → waiting ≡ place ∷ after → capacity' ≡ capacity
+    → IsKept (set is_listed place false) after capacity'
+made_pop is_listed waiting after capacity capacity' place kept w c =
+    subst (λ n. IsKept (set is_listed place false) after n) (sym c) (kept_pop is_listed place after capacity (subst (λ ws. IsKept is_listed ws capacity) w kept))
+
+pub popped_inside : (is_listed : List Bool) (waiting after : List ℕ) (capacity place : ℕ) → IsKept is_listed waiting capacity → waiting ≡ place ∷ after → place < length is_listed
+popped_inside is_listed waiting after capacity place kept w = first_inside is_listed place after capacity (subst (λ ws. IsKept is_listed ws capacity) w kept)

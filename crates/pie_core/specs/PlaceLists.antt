@@ -17,3 +17,9 @@ pub record IsKept (is_listed : List Bool) (waiting : List ℕ) (capacity : ℕ) 
   pub in_room : (place : ℕ) → waits waiting place ≡ true → place < length is_listed
   pub distinct : IsDistinct nat_eq waiting
   pub room : length is_listed ≤ capacity
+
+-- Each place that waits has room, none waits twice, and so there are at most as many as there is room.
+pub record IsPlaceList (list : PlaceList) : Type 0 where
+  pub in_room : (place : ℕ) → waits list.waiting place ≡ true → place < list.room
+  pub distinct : IsDistinct nat_eq list.waiting
+  pub few : length list.waiting ≤ list.room

@@ -1,5 +1,6 @@
 ghost use Rattle.std.specs.Prelude.{◌≡◌, ◌<◌, ◌↔◌, ◌+◌, ◌*◌, ◌++◌, ◌∷◌, [], length, replicate, IfOk, IfSome, IsNone};
 ghost use Rattle.std.specs.Borrow.{sem};
+ghost use Rattle.pie_core.specs.Locals.{IsLocal};
 ghost use Rattle.pie_core.specs.LocalCalls.{new_local, loaded, settled, with_value, with_waiting, TakesOldest};
 ghost use Rattle.pie_core.specs.LocalLends.{LendsCounters};
 
@@ -23,12 +24,13 @@ pub struct Local {
 impl Model for Local {
     ghost use Rattle.std.specs.Prelude.{◌≡◌, ◌≤◌, vec_len};
     ghost use Rattle.pie_core.specs.Locals.{LocalValues};
+    ghost use Rattle.pie_core.specs.PlaceLists.{IsPlaceList};
 
     ghost Value = { LocalValues };
 
     ghost view = { λ l. record { values = l.values.items; before = l.before.items; counters = l.counters.items; waiting = l.worklist.waiting } };
 
-    ghost invariant = { λ l. (l.worklist.room ≡ vec_len l.before) × (vec_len l.before ≤ vec_len l.values) };
+    ghost invariant = { λ l. (l.worklist.room ≡ vec_len l.before) × (vec_len l.before ≤ vec_len l.values) × IsPlaceList l.worklist };
 }
 
 impl Local {
@@ -62,7 +64,8 @@ impl Local {
 
     /// The values of all places: of the owned ones, and then of the mirrors.
     pub fn values(&self) -> &[u64]
-        ensures { result.now ≡ self.now.values }
+        ensures values { result.now ≡ self.now.values }
+        ensures local { IsLocal self.now }
     {
         &self.values
     }
@@ -93,7 +96,8 @@ impl Local {
     /// Adds an owned place to the end of the worklist, where it isn't in it.
     pub fn enqueue(&mut self, place: u32)
         requires { place < length self.old.before }
-        ensures { self.new ≡ with_waiting self.old place }
+        ensures added { self.new ≡ with_waiting self.old place }
+        ensures local { IsLocal self.new }
     {
         self.worklist.push(place);
     }
@@ -102,6 +106,8 @@ impl Local {
     pub fn dequeue(&mut self) -> Option<u32>
         ensures none { IsNone result ↔ (self.old.waiting ≡ []) }
         ensures oldest { TakesOldest self.old result self.new }
+        ensures owned { IfSome result (λ place. place < length self.old.before) }
+        ensures local { IsLocal self.new }
     {
         self.worklist.pop()
     }

@@ -1,4 +1,5 @@
 ghost use Rattle.std.specs.Prelude.{◌≡◌, ◌<◌, IfOk, IfSome, IsNone, ◌↔◌, []};
+ghost use Rattle.pie_core.specs.PlaceLists.{IsPlaceList};
 ghost use Rattle.pie_core.specs.Worklists.{new_list, with_place, HasFirst};
 
 use grape_port::NoMemory;
@@ -29,7 +30,8 @@ impl Model for Worklist {
 impl Worklist {
     /// An empty list with room for the places below `room`.
     pub fn new(alloc: Global, room: usize) -> Result<Worklist, NoMemory>
-        ensures { IfOk result (λ list. list ≡ new_list room) }
+        ensures made { IfOk result (λ list. list ≡ new_list room) }
+        ensures list { IfOk result IsPlaceList }
     {
         let is_listed = vec![in alloc; false; room].map_err(|_| NoMemory)?;
         let waiting = VecDeque::with_capacity(alloc, room).map_err(|_| NoMemory)?;
@@ -39,7 +41,8 @@ impl Worklist {
     /// Adds a place at the end where it isn't in the list. The place lies below the room.
     pub fn push(&mut self, place: u32)
         requires { place < self.old.room }
-        ensures { self.new ≡ with_place self.old place }
+        ensures added { self.new ≡ with_place self.old place }
+        ensures list { IsPlaceList self.new }
     {
         let index = place as usize;
         if !self.is_listed[index] {
@@ -52,6 +55,8 @@ impl Worklist {
     pub fn pop(&mut self) -> Option<u32>
         ensures none { IsNone result ↔ (self.old.waiting ≡ []) }
         ensures first { HasFirst self.old result self.new }
+        ensures inside { IfSome result (λ place. place < self.old.room) }
+        ensures list { IsPlaceList self.new }
     {
         let place = self.waiting.pop_front()?;
         self.is_listed[place as usize] = false;

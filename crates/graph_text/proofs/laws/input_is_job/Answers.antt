@@ -11,13 +11,8 @@ use Rattle.graph_text.specs.declared.statement.Statement.TheVariants.{Asks}
 use Rattle.graph_text.specs.Input.{BadLine, statements_of, first_bad, cause_of, first_of, question_in, missing_for, job_unless, job_or_cause, job_or_bad, job_of_lines}
 use Rattle.graph_text.proofs.Ranges.{InRange, AsksInRange}
 use Rattle.graph_text.proofs.Good.{AreGood, good_text}
-use Rattle.graph_text.proofs.Jobs.{job_is_job}
+use Rattle.graph_text.proofs.Jobs.{asks_in_range, job_is_job}
 use Rattle.graph_text.proofs.laws.input_is_job.Goals as goal
-
-asks_in_range : (ss : List Statement) (q : Question) → AllByRecursion InRange ss → first_of question_in ss ≡ Some q → AsksInRange q
-asks_in_range [] q h e = absurd (let x : None ≡ Some q = e in cc)
-asks_in_range (Asks r ∷ ss) q h e = subst AsksInRange (same_Some r q e) h.0
-asks_in_range (s ∷ ss) q h e = asks_in_range ss q h.1 e
 
 missing_step : (ss : List Statement) (q : Question) (count : ℕ) (o : Option Why) → AreGood ss → AsksInRange q → IfOk (job_or_bad count (job_unless ss q o)) IsJob
 missing_step ss q count None g h = job_is_job ss q g h

@@ -1,11 +1,17 @@
-use Rattle.std.proofs.Common.{◌≡◌, [], replicate, false, arith, rules}
+use Rattle.std.proofs.Common.{◌≡◌, arith, rules, vec_len}
 use Rattle.std.specs.VecDeque.{deque_capacity}
-use Rattle.pie_core.proofs.Places.{kept_new}
+use Rattle.pie_core.specs.PlaceLists.{IsKept}
+use Rattle.pie_core.proofs.Places.{made_new, kept_list}
 use Rattle.pie_core.proofs.worklist.Worklist.new.Goals as goal
 
+kept : (c : goal.In_ok-waiting) → IsKept c.in_ok-is_listed.is_listed.items c.in_ok-waiting.waiting.items (deque_capacity c.in_ok-waiting.waiting)
+kept c =
+    let room : deque_capacity c.in_ok-waiting.waiting ≡ c.args.room = search rules
+    in made_new c.in_ok-is_listed.is_listed.items c.in_ok-waiting.waiting.items (deque_capacity c.in_ok-waiting.waiting) c.args.room (search rules) (search rules) (omega arith)
+
 pub invariant_of-result : goal.invariant_of-result
-invariant_of-result c =
-    let tests : c.in_ok-is_listed.is_listed.items ≡ replicate c.args.room false = search rules
-    in let none : c.in_ok-waiting.waiting.items ≡ [] = search rules
-    in let room : deque_capacity c.in_ok-waiting.waiting ≡ c.args.room = search rules
-    in rw (tests, none) (kept_new c.args.room (deque_capacity c.in_ok-waiting.waiting) (omega arith))
+invariant_of-result c = kept c
+
+pub returns-clause-list : goal.returns-clause-list
+returns-clause-list c =
+    kept_list c.in_ok-is_listed.is_listed.items c.in_ok-waiting.waiting.items (deque_capacity c.in_ok-waiting.waiting) (vec_len c.in_ok-is_listed.is_listed) (omega arith) (kept c)

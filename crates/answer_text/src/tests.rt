@@ -1,0 +1,73 @@
+use crate::{Answer, AnswerRow, Kind, write_answer};
+use grape_port::{Failed, MemSink, NoMemory};
+use graph_core::FAR;
+use std::alloc::Global;
+use std::test::Fail;
+
+fn answer_of(alloc: Global, kind: Kind, values: &[u64]) -> Result<Answer, NoMemory> {
+    let mut rows = Vec::new(alloc);
+    let mut id = 0;
+    for value in values {
+        id = u32::wrapping_add(id, 1);
+        rows.push(AnswerRow { id, value: *value })?;
+    }
+    Ok(Answer { kind, rows })
+}
+
+#[test]
+fn each_kind_has_its_words(rt: HostRuntime) -> Result<(), Fail> {
+    let every_bit =
+        "answer sim 3\n1 0,2\n2 -\n3 0,1,2,3,4,5,6,7,8,9,10,11,12,13,14,15,16,17,18,19,20,21,22,\
+        23,24,25,26,27,28,29,30,31,32,33,34,35,36,37,38,39,40,41,42,43,44,45,46,47,48,49,50,51,52,53,54,55,56,57,\
+        58,59,60,61,62,63\nend\n";
+    let table: [(Kind, &[u64], &str); 5] = [
+        (
+            Kind::Dist,
+            &[0, 5, 6],
+            "answer dist 3\n1 0\n2 5\n3 6\nend\n",
+        ),
+        (
+            Kind::Dist,
+            &[FAR, FAR - 1],
+            "answer dist 2\n1 far\n2 4503599627370495\nend\n",
+        ),
+        (
+            Kind::Label,
+            &[u64::MAX],
+            "answer label 1\n1 18446744073709551615\nend\n",
+        ),
+        (Kind::Reach, &[0, 1], "answer reach 2\n1 yes\n2 no\nend\n"),
+        (Kind::Sim, &[5, 0, u64::MAX], every_bit),
+    ];
+    for (kind, values, text) in table {
+        let answer = answer_of(rt.alloc(), kind, values)?;
+        let mut sink = MemSink::new(rt.alloc(), 300, 7, Vec::new(rt.alloc()))?;
+        assert_eq!(rt; write_answer(&answer, &mut sink), Ok(()));
+        assert_eq!(rt; sink.bytes(), text.as_bytes());
+    }
+    Ok(())
+}
+
+// 900 rows of the value 7: 17 bytes, 9 of 4 bytes, 90 of 5, 801 of 6, and 4.
+#[test]
+fn a_long_answer_goes_in_pieces(rt: HostRuntime) -> Result<(), Fail> {
+    let answer = answer_of(rt.alloc(), Kind::Label, &[7; 900])?;
+    let mut sink = MemSink::new(rt.alloc(), 6000, 7, Vec::new(rt.alloc()))?;
+    assert_eq!(rt; write_answer(&answer, &mut sink), Ok(()));
+    assert_eq!(rt; sink.bytes().len(), 17 + 36 + 450 + 4806 + 4);
+    assert!(rt; sink.bytes().starts_with(b"answer label 900\n1 7\n2 7\n"));
+    assert!(rt; sink.bytes().ends_with(b"\n899 7\n900 7\nend\n"));
+    Ok(())
+}
+
+#[test]
+fn a_failed_write_leaves_a_front(rt: HostRuntime) -> Result<(), Fail> {
+    let answer = answer_of(rt.alloc(), Kind::Dist, &[0, 5, 6])?;
+    for (failing, front) in [(3, "answer d"), (9, "answer dist 3\n1 0\n2 5\n3 6\nend\n")] {
+        let fails = Vec::from_slice(rt.alloc(), &[failing])?;
+        let mut sink = MemSink::new(rt.alloc(), 30, 4, fails)?;
+        assert_eq!(rt; write_answer(&answer, &mut sink), Err(Failed));
+        assert_eq!(rt; sink.bytes(), front.as_bytes());
+    }
+    Ok(())
+}

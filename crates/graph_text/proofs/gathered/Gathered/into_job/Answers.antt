@@ -1,0 +1,13 @@
+use Rattle.std.proofs.Common.{sym, ◌∙◌}
+use Rattle.graph_text.specs.Input.{statements_of}
+use Rattle.graph_text.proofs.Good.{good_text}
+use Rattle.graph_text.proofs.Jobs.{makes_graph, parts_are_job}
+use Rattle.graph_text.proofs.gathered.Gathered.into_job.Goals as goal
+
+pub graph-requires : goal.graph-requires
+graph-requires c = (statements_of c.requires.0, c.requires.1, makes_graph (statements_of c.requires.0) (good_text c.requires.0 c.requires.2))
+
+pub returns-clause-job : goal.returns-clause-job
+returns-clause-job c =
+    parts_are_job c.in_ok-graph.graph c.query_of-query.result (statements_of c.requires.0) c.in-Some.question (c.in_ok-graph.ensures.ok (statements_of c.requires.0) c.requires.1) c.query_of-query.ensures
+    (good_text c.requires.0 c.requires.2) (sym c.requires.1.query ∙ c.in-Some.is)

@@ -1,0 +1,124 @@
+ghost use Rattle.std.specs.Prelude.{◌≡◌, ℕ, ◌+◌, ◌<◌, ◌≤◌, ◌||◌, nat_lt, List, [], ◌∷◌, ◌++◌, length, Ok, option_map, OnOk, IfOk};
+ghost use Rattle.graph_text.specs.Lines.{lines_of, before_line_feed, HasNoLineFeed};
+
+use crate::fault::{TextFault, Why};
+use crate::gathered::Gathered;
+use crate::statement::{Statement, read_statement};
+use graph_core::Job;
+use std::alloc::Global;
+
+const MAX_LINE: u64 = 4_096;
+const MAX_INPUT: u64 = 268_435_456;
+
+/// The lines of a text that were judged: how many, how many bytes, and what they say.
+#[derive(Drop)]
+pub(crate) struct WholeLines {
+    count: u64,
+    bytes: u64,
+    gathered: Gathered,
+    ghost few_bytes: { bytes ≤ 268435456 },
+    ghost few_lines: { count ≤ bytes },
+}
+
+impl WholeLines {
+    ghost use Rattle.graph_core.specs.Graphs.{IsJob};
+    ghost use Rattle.graph_text.specs.declared.statement.Statement.{Statement as Said};
+    ghost use Rattle.graph_text.specs.Input.{bad, cause_among, first_bad, cause_of, job_of_lines, IsBuilt};
+    ghost use Rattle.graph_text.specs.ReaderState.{gathered_state, lines_state};
+    ghost use Rattle.graph_text.specs.Gathering.{Holds};
+    ghost use Rattle.graph_text.specs.Reader.{HasLines, Answers, Gives};
+
+    pub(crate) fn new(alloc: Global) -> WholeLines
+        ensures { HasLines (lines_state result) [] }
+    {
+        WholeLines {
+            count: 0,
+            bytes: 0,
+            gathered: Gathered::new(alloc),
+        }
+    }
+
+    /// Whether the next line is too long, if it has `shown` bytes before its line feed and `length` in all.
+    pub(crate) fn is_too_long(&self, shown: usize, length: usize) -> bool
+        ensures { result ≡ (nat_lt 4096 shown || nat_lt 268435456 (self.now.bytes + length)) }
+    {
+        shown as u64 > MAX_LINE || length as u64 > MAX_INPUT - self.bytes
+    }
+
+    /// That the next line is too long.
+    pub(crate) fn too_long(&self) -> TextFault
+        ensures { result ≡ TextFault.Bad (self.now.count + 1) Why.TooLong }
+    {
+        let line = self.count + 1;
+        let why = Why::TooLong;
+        TextFault::Bad { line, why }
+    }
+
+    /// Takes the next line, with its line feed if it has one.
+    pub(crate) fn take(&mut self, line: &[u8]) -> Result<(), TextFault>
+        requires { 0 < length line.now }
+        ensures answer { (lines : List (List ℕ)) → HasLines (lines_state self.old) lines → Answers result (option_map (bad (length lines + 1)) (cause_of lines line.now)) }
+        ensures ok { OnOk result ((lines : List (List ℕ)) → HasLines (lines_state self.old) lines → HasLines (lines_state self.new) (lines ++ line.now ∷ [])) }
+    {
+        if self.is_too_long(length_before_line_feed(line), line.len()) {
+            return Err(self.too_long());
+        }
+        match read_statement(line) {
+            Ok(statement) => self.add(line.len(), statement),
+            Err(why) => {
+                let line = self.count + 1;
+                Err(TextFault::Bad { line, why })
+            }
+        }
+    }
+
+    /// Adds a line of this length that says this.
+    fn add(&mut self, length: usize, statement: Statement) -> Result<(), TextFault>
+        requires some { 0 < length }
+        requires few { self.old.bytes + length ≤ 268435456 }
+        ensures answer { (ss : List Said) → Holds (gathered_state self.old.gathered) ss → Answers result (option_map (bad (self.old.count + 1)) (cause_among ss (Ok statement))) }
+        ensures count { OnOk result (self.new.count ≡ self.old.count + 1) }
+        ensures bytes { OnOk result (self.new.bytes ≡ self.old.bytes + length) }
+        ensures says { OnOk result ((ss : List Said) → Holds (gathered_state self.old.gathered) ss → Holds (gathered_state self.new.gathered) (ss ++ statement ∷ [])) }
+    {
+        let line = self.count + 1;
+        self.gathered.take(line, statement)?;
+        self.count = line;
+        self.bytes += length as u64;
+        Ok(())
+    }
+
+    /// Takes the bytes behind the last line feed, which are a line where there are any.
+    pub(crate) fn take_last(&mut self, line: &[u8]) -> Result<(), TextFault>
+        requires { HasNoLineFeed line.now }
+        ensures answer { (lines : List (List ℕ)) → HasLines (lines_state self.old) lines → Answers result (first_bad cause_of lines (lines_of line.now)) }
+        ensures ok { OnOk result ((lines : List (List ℕ)) → HasLines (lines_state self.old) lines → HasLines (lines_state self.new) (lines ++ lines_of line.now)) }
+    {
+        if line.is_empty() {
+            return Ok(());
+        }
+        self.take(line)
+    }
+
+    /// The job that the lines make.
+    pub(crate) fn into_job(self) -> Result<Job, TextFault>
+        requires { (lines : List (List ℕ)) × HasLines (lines_state self) lines }
+        ensures answer { (lines : List (List ℕ)) → HasLines (lines_state self) lines → Gives result (job_of_lines lines None) }
+        ensures job { IfOk result IsJob }
+        ensures built { IfOk result (λ job. IsBuilt job.query) }
+    {
+        let line = self.count + 1;
+        self.gathered.into_job(line)
+    }
+}
+
+/// How many bytes a line has before its line feed.
+fn length_before_line_feed(line: &[u8]) -> usize
+    ensures { result ≡ length (before_line_feed line.now) }
+{
+    if !line.is_empty() && line[line.len() - 1] == b'\n' {
+        line.len() - 1
+    } else {
+        line.len()
+    }
+}
