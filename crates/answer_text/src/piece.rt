@@ -1,5 +1,5 @@
 ghost use Rattle.std.specs.Prelude.{◌≡◌, ℕ, ◌+◌, ◌<◌, ◌≤◌, List, [], ◌++◌, length, take, OnOk, OnErr, decimal};
-ghost use Rattle.grape_port.specs.Ports.{Rose, Appends, AppendsFront};
+ghost use Rattle.grape_port.specs.Ports.{Rose, Appends, AppendsFront, IsAllFlushed};
 ghost use Rattle.answer_text.specs.Waiting.{Puts};
 
 use grape_port::{Failed, Sink, write_all};
@@ -69,6 +69,18 @@ impl Piece {
         write_all(out, &self.bytes[..self.len])?;
         self.len = 0;
         Ok(())
+    }
+
+    /// Writes out what waits, and flushes all.
+    pub fn finish<O: Sink>(&mut self, out: &mut O) -> Result<(), Failed>
+        ensures appended { OnOk result (Appends (O.written out.old) self.old (O.written out.new)) }
+        ensures flushed { OnOk result (IsAllFlushed (O.written out.new) (O.flushed out.new)) }
+        ensures err { OnErr result (AppendsFront (O.written out.old) self.old (O.written out.new)) }
+        ensures fault { OnErr result (Rose (O.faults out.old) (O.faults out.new)) }
+        ensures faults_stay { O.faults out.old ≤ O.faults out.new }
+    {
+        self.write_out(out)?;
+        out.flush()
     }
 
     /// Makes room for `count` bytes: where there is none, what waits is written out.

@@ -46,8 +46,7 @@ fn write_rows<O: Sink>(kind: Kind, rows: &[AnswerRow], out: &mut O) -> Result<()
     let mut piece = Piece::new();
     push_head(&mut piece, kind, rows.len());
     put_rows(&mut piece, out, kind, rows)?;
-    put_end(&mut piece, out)?;
-    out.flush()
+    put_end(&mut piece, out)
 }
 
 fn push_head(piece: &mut Piece, kind: Kind, count: usize)
@@ -96,6 +95,7 @@ fn put_rows<O: Sink>(
 fn put_end<O: Sink>(piece: &mut Piece, out: &mut O) -> Result<(), Failed>
     ensures appended { OnOk result (Appends (O.written out.old)
         (piece.old ++ codes "end\n") (O.written out.new)) }
+    ensures flushed { OnOk result (IsAllFlushed (O.written out.new) (O.flushed out.new)) }
     ensures err { OnErr result (AppendsFront (O.written out.old)
         (piece.old ++ codes "end\n") (O.written out.new)) }
     ensures fault { OnErr result (Rose (O.faults out.old) (O.faults out.new)) }
@@ -103,7 +103,7 @@ fn put_end<O: Sink>(piece: &mut Piece, out: &mut O) -> Result<(), Failed>
 {
     piece.make_room(out, 4)?;
     piece.push(b"end\n");
-    piece.write_out(out)
+    piece.finish(out)
 }
 
 fn push_row(piece: &mut Piece, kind: Kind, row: &AnswerRow)

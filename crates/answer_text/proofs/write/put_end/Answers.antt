@@ -12,4 +12,4 @@ returns-in_err-make_room-clause-err g c =
 pub returns-clause-err : goal.returns-clause-err
 returns-clause-err g c =
     let put = puts_more _ _ (g.O.Sink.written c.make_room.new.out) c.args.piece.now [] c.make_room.new.self c.in_ok-make_room.ensures.put (codes "end\n")
-    in on_err_weaker c.write_out.result (λ (f : AppendsFront (g.O.Sink.written c.make_room.new.out) c.push.new.self (g.O.Sink.written c.write_out.new.out)). puts_then_front _ _ _ c.args.piece.now (codes "end\n") (c.make_room.new.self ++ codes "end\n") put (rw c.push.ensures at f)) c.write_out.ensures.err
+    in on_err_weaker c.finish.result (λ (f : AppendsFront (g.O.Sink.written c.make_room.new.out) c.push.new.self (g.O.Sink.written c.finish.new.out)). puts_then_front _ _ _ c.args.piece.now (codes "end\n") (c.make_room.new.self ++ codes "end\n") put (rw c.push.ensures at f)) c.finish.ensures.err
