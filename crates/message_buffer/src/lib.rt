@@ -6,3 +6,6 @@
 mod hand;
 
 pub use hand::Hand;
+
+#[cfg(test)]
+mod tests;

@@ -14,3 +14,6 @@ pub use laws::{local_solution_is_computed, local_solution_is_unique};
 pub use local::Local;
 pub use pie::Pie;
 pub use worklist::Worklist;
+
+#[cfg(test)]
+mod tests;
