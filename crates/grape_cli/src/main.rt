@@ -3,10 +3,9 @@
 
 use grape_port::{NoMemory, StdSink, StdSource};
 use grape_run::{Status, Words, code, grape};
-use std::env;
-use std::io;
 use std::process::ExitCode;
 use std::rt::Env;
+use std::{env, io};
 
 /// The words behind the program's name. Words that are no text are none, which asks for nothing.
 fn command_words(rt: &(impl Env + AllocGlobal)) -> Result<Words, NoMemory> {
