@@ -1,0 +1,14 @@
+//! The events of a run, and the journal that lists them.
+//!
+//! It promises that a [`Journal`] is the list of its pushes, in order, and that a push into room that was made before
+//! takes no memory. Which events may follow one another, and what each of them does, is said by the crates above.
+#![tactic(auto)]
+
+mod event;
+mod journal;
+
+pub use event::{Event, StopCause};
+pub use journal::Journal;
+
+#[cfg(test)]
+mod tests;
