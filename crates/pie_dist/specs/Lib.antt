@@ -1,0 +1,3 @@
+pub mod DistJobs
+pub mod Lowering
+pub mod Laws

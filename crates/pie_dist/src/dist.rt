@@ -1,0 +1,50 @@
+ghost use Rattle.std.specs.Prelude.{◌≡◌, ℕ};
+
+use crate::lowering::{list_owned, lower_mirror_readers, lower_mirrors, work_off};
+use graph_core::Fragment;
+use message_buffer::Hand;
+use pie_core::{Local, Pie};
+use value_order::Order;
+
+/// The program of distances. It keeps nothing of its own, and has no counters.
+#[derive(Drop)]
+pub struct Dist;
+
+impl Dist {
+    pub fn new() -> Dist {
+        Dist
+    }
+}
+
+impl Pie for Dist {
+    ghost use Rattle.graph_core.specs.Queries.{equations_of};
+    ghost use Rattle.graph_core.proofs.Lawful.{lawful as lawful_equations};
+    ghost use Rattle.pie_dist.specs.DistJobs.{IsDistJob};
+
+    ghost is_for = { λ dist job. IsDistJob job };
+
+    ghost equations = { λ dist job. equations_of job };
+
+    ghost counters_for = { λ job. 0 };
+
+    ghost lawful = { λ dist job h. lawful_equations job.graph job.query h.0.graph };
+
+    fn order(&self) -> Order {
+        Order::Least
+    }
+
+    fn counters(&self) -> u32 {
+        0
+    }
+
+    fn peval(&self, part: &Fragment, local: &mut Local) {
+        list_owned(local, part.owned().len() as u32);
+        lower_mirror_readers(part, local);
+        work_off(part, local);
+    }
+
+    fn inceval(&self, part: &Fragment, local: &mut Local, hand: &Hand) {
+        lower_mirrors(part, local, hand);
+        work_off(part, local);
+    }
+}
