@@ -1,0 +1,8 @@
+//! Cuts a graph into fragments: each vertex, and so each equation, is owned by one of them.
+#![tactic(auto)]
+
+mod filed;
+mod filing;
+mod owner;
+
+pub use owner::owner_of;
