@@ -1,1 +1,4 @@
 pub mod InOrder
+pub mod FiledRows
+pub mod SortedFiled
+pub mod EdgeFiles

@@ -4,5 +4,7 @@
 mod filed;
 mod filing;
 mod owner;
+mod piece;
+mod reads;
 
 pub use owner::owner_of;
