@@ -2,3 +2,4 @@ pub mod InOrder
 pub mod FiledRows
 pub mod SortedFiled
 pub mod EdgeFiles
+pub mod Pieces
