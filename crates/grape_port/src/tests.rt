@@ -29,15 +29,18 @@ fn a_read_fails_and_the_next_goes_on(rt: HostRuntime) -> Result<(), Fail> {
     let text = Vec::from_slice(rt.alloc(), b"graph 3 2\nvertex 1\n")?;
     let fails = Vec::from_slice(rt.alloc(), &[2])?;
     let mut source = MemSource::new(text, 8, fails);
+    let table: [(Result<usize, Failed>, &[u8]); 5] = [
+        (Ok(8), b"graph 3 "),
+        (Err(Failed), b"graph 3 "),
+        (Ok(8), b"2\nvertex"),
+        (Ok(3), b" 1\nertex"),
+        (Ok(0), b" 1\nertex"),
+    ];
     let mut to = [0u8; 16];
-    assert_eq!(rt; source.read(&mut to), Ok(8));
-    assert_eq!(rt; &to[..8], b"graph 3 ".as_slice());
-    assert_eq!(rt; source.read(&mut to), Err(Failed));
-    assert_eq!(rt; source.read(&mut to[..6]), Ok(6));
-    assert_eq!(rt; &to[..6], b"2\nvert".as_slice());
-    assert_eq!(rt; source.read(&mut to), Ok(5));
-    assert_eq!(rt; &to[..5], b"ex 1\n".as_slice());
-    assert_eq!(rt; source.read(&mut to), Ok(0));
+    for (want, bytes) in table {
+        assert_eq!(rt; source.read(&mut to), want);
+        assert!(rt; to.starts_with(bytes));
+    }
     Ok(())
 }
 
@@ -50,10 +53,22 @@ fn a_write_fails_and_a_front_stays(rt: HostRuntime) -> Result<(), Fail> {
     assert_eq!(rt; sink.write(b"ist"), Ok(3));
     assert_eq!(rt; sink.flush(), Err(Failed));
     assert_eq!(rt; sink.flush(), Ok(()));
-    assert_eq!(rt; sink.write(b" 3\n"), Ok(1));
-    assert_eq!(rt; sink.write(b"3\n"), Err(Failed));
-    assert_eq!(rt; write_all(&mut sink, b""), Ok(()));
-    assert_eq!(rt; sink.bytes(), b"answer dist ".as_slice());
+    Ok(())
+}
+
+#[test]
+fn a_full_sink_takes_nothing(rt: HostRuntime) -> Result<(), Fail> {
+    let mut sink = MemSink::new(rt.alloc(), 6, 4, Vec::new(rt.alloc()))?;
+    let table: [(&[u8], Result<usize, Failed>); 4] = [
+        (b"answer", Ok(4)),
+        (b"er ", Ok(2)),
+        (b" ", Err(Failed)),
+        (b"", Ok(0)),
+    ];
+    for (bytes, want) in table {
+        assert_eq!(rt; sink.write(bytes), want);
+    }
+    assert_eq!(rt; sink.bytes(), b"answer".as_slice());
     Ok(())
 }
 
@@ -95,36 +110,41 @@ impl Write for Stuffed {
 }
 
 #[test]
-fn readers_of_std(rt: HostRuntime) {
-    let mut to = [0u8; 4];
+fn a_reader_of_std(rt: HostRuntime) {
     let mut source = StdSource::new(b"vertex".as_slice());
-    assert_eq!(rt; source.read(&mut to), Ok(4));
-    assert_eq!(rt; &to, b"vert");
-    assert_eq!(rt; source.read(&mut to), Ok(2));
-    assert_eq!(rt; &to, b"exrt");
-    assert_eq!(rt; source.read(&mut to), Ok(0));
-
-    let mut source = StdSource::new(Broken { calls: 0 });
-    assert_eq!(rt; source.read(&mut to), Ok(2));
-    assert_eq!(rt; source.read(&mut to), Err(Failed));
-    assert_eq!(rt; source.read(&mut to), Ok(1));
-    assert_eq!(rt; &to, b"cbrt");
-    assert_eq!(rt; source.read(&mut to), Ok(0));
+    let table: [(usize, &[u8]); 3] = [(4, b"vert"), (2, b"exrt"), (0, b"exrt")];
+    let mut to = [0u8; 4];
+    for (count, bytes) in table {
+        assert_eq!(rt; source.read(&mut to), Ok(count));
+        assert!(rt; to.starts_with(bytes));
+    }
 }
 
 #[test]
-fn writers_of_std(rt: HostRuntime) -> Result<(), Fail> {
+fn a_broken_reader(rt: HostRuntime) {
+    let mut source = StdSource::new(Broken { calls: 0 });
+    let mut to = [0u8; 4];
+    for want in [Ok(2), Err(Failed), Ok(1), Ok(0)] {
+        assert_eq!(rt; source.read(&mut to), want);
+    }
+    assert!(rt; to.starts_with(b"cb"));
+}
+
+#[test]
+fn a_writer_of_std(rt: HostRuntime) {
     let mut text: Vec<u8> = Vec::new(rt.alloc());
     let mut sink = StdSink::new(&mut text);
     assert_eq!(rt; write_all(&mut sink, b"end\n"), Ok(()));
     assert_eq!(rt; sink.flush(), Ok(()));
     assert_eq!(rt; text.as_slice(), b"end\n".as_slice());
+}
 
+#[test]
+fn a_stuffed_writer(rt: HostRuntime) {
     let mut sink = StdSink::new(Stuffed);
     assert_eq!(rt; sink.write(b"end\n"), Err(Failed));
     assert_eq!(rt; sink.write(b""), Ok(0));
     assert_eq!(rt; sink.flush(), Err(Failed));
-    Ok(())
 }
 
 fn no_memory(alloc: Global) -> Result<Vec<u8>, NoMemory> {

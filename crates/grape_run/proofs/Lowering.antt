@@ -1,14 +1,13 @@
 -- One round of edges.
-use Rattle.std.proofs.Common.{◌≡◌, ◌≢◌, ℕ, ◌+◌, ◌<◌, ◌≤◌, ◌⊎◌, inl, inr, refl, sym, ◌∙◌, ap, subst, arith, List, [], ◌∷◌, ◌++◌, length, Contains, slice_index, slice_index_or, slice_set, sum, take, drop, below_more}
-use Rattle.std.proofs.lemmas.Bool.{cases_lt, cases_eq}
+use Rattle.std.proofs.Common.{◌≡◌, ◌≢◌, ℕ, ◌+◌, ◌<◌, ◌≤◌, inl, inr, sym, ◌∙◌, ap, subst, arith, List, [], ◌∷◌, ◌++◌, length, Contains, slice_index, slice_index_or, sum, take, drop}
+use Rattle.std.proofs.lemmas.Bool.{cases_eq}
 use Rattle.std.proofs.lemmas.List.{get_or-set_same, get_or-set_other, length-set, get_or_default}
 use Rattle.std.proofs.lemmas.List.Elements.{Contains-get_or, All-contains}
 use Rattle.std.proofs.Math.Seq.{take-append_seam}
 use Rattle.std.proofs.lemmas.List.Sums.{sum_by-set}
 use Rattle.graph_core.specs.declared.edge.Edge.{Edge}
-use Rattle.graph_core.specs.declared.TheConstants.{FAR}
 use Rattle.graph_core.specs.Digraph.{Digraph}
-use Rattle.graph_core.specs.Graphs.{count_of, number_at, IsGraph}
+use Rattle.graph_core.specs.Graphs.{count_of, IsGraph}
 use Rattle.graph_core.specs.Walks.{IsWalk, walk_weight, IsWeightOrFar, IsRelaxed}
 use Rattle.grape_run.specs.Rounds.{AreAtMostFar, IsUnderWay, offer_of, Lowers, IsHeld, HoldsEdges}
 

@@ -1,5 +1,5 @@
 -- A text that is written part by part.
-use Rattle.std.proofs.Common.{◌≡◌, ℕ, List, ◌++◌, Option, Result, Ok, Err, OnOk, OnErr, sym, ◌∙◌, ap, subst, append_assoc}
+use Rattle.std.proofs.Common.{ℕ, List, ◌++◌, Option, Result, Ok, Err, OnOk, OnErr, sym, ◌∙◌, ap, append_assoc}
 use Rattle.grape_port.specs.Ports.{Appends, AppendsFront}
 use Rattle.grape_port.proofs.Writes.{appends_both}
 

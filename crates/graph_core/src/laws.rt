@@ -10,7 +10,8 @@ ghost use Rattle.graph_core.specs.Meaning.{IsDistance, AreValues};
 ghost use Rattle.graph_core.specs.Equations.{Assignment, Equations, AreLawful, IsGreatest};
 ghost use Rattle.graph_core.specs.Queries.{equations_on, equations_of};
 ghost use Rattle.graph_core.specs.Theorems.{GreatestIsValues, GreatestIsMeaning};
-ghost use Rattle.graph_core.specs.Fragments.{FragmentsCut};
+ghost use Rattle.graph_core.specs.Fragments.{FragmentsCut, fragment_of};
+ghost use Rattle.graph_core.specs.Parts.{IsFragment};
 
 use crate::FAR;
 use crate::edge::Edge;
@@ -25,6 +26,11 @@ pub fn made_graph_is_one()
 /// Each equation of a job stands in exactly one fragment, with all that it reads.
 pub fn fragments_cut()
     ensures { FragmentsCut }
+{}
+
+/// Each fragment of a job has its rows, and the places in them are its own.
+pub fn fragments_are_whole()
+    ensures { (job : Job) (i : ℕ) → IsFragment (fragment_of job i) }
 {}
 
 /// No walk weighs less than the relaxed value of its end.

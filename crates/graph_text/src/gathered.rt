@@ -14,8 +14,10 @@ use graph_core::{Cut, Edge, Graph, Job, Policy, Query, Settings};
 use std::alloc::Global;
 use std::collections::HashSet;
 
+/// The most edge lines.
 const MAX_EDGES: usize = 4_000_000;
 
+/// The most vertices.
 const MAX_VERTICES: usize = 1_000_000;
 
 /// What the lines so far have said.

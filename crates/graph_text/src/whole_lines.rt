@@ -7,9 +7,10 @@ use crate::statement::{Statement, read_statement};
 use graph_core::Job;
 use std::alloc::Global;
 
-/// The most bytes of a line before its line feed, and of an input.
+/// The most bytes of a line before its line feed.
 const MAX_LINE: u64 = 4_096;
 
+/// The most bytes of an input.
 const MAX_INPUT: u64 = 268_435_456;
 
 /// The lines of a text that were judged: how many, how many bytes, and what they say.

@@ -1,6 +1,4 @@
-use Rattle.std.proofs.Common.{◌≡◌, Some, None}
-use Rattle.grape_run.specs.declared.words.Mode.{Mode}
-use Rattle.grape_run.specs.declared.words.Mode.TheVariants as mode
+use Rattle.std.proofs.Common.{◌≡◌, None}
 use Rattle.grape_run.specs.Notes.{mode_of}
 use Rattle.grape_run.proofs.Outcomes.{ends}
 use Rattle.grape_run.proofs.run.grape.Goals as goal
