@@ -3,3 +3,4 @@ pub mod FiledRows
 pub mod SortedFiled
 pub mod EdgeFiles
 pub mod Pieces
+pub mod Placing

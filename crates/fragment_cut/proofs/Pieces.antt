@@ -1,5 +1,5 @@
 -- Steps of the loops that gather a fragment's vertices.
-use Rattle.std.proofs.Common.{◌≡◌, ◌≢◌, ℕ, ◌+◌, ◌<◌, ◌≤◌, Bool, true, false, not, ◌&&◌, cond, ◌==◌, List, [], ◌∷◌, ◌++◌, length, map, filter, flat_map, slice_index, slice_index_or, get_or, refl, ◌∙◌, sym, ap, subst, arith, eqb-true, eq-eqb, append-nil}
+use Rattle.std.proofs.Common.{◌≡◌, ◌≢◌, ℕ, ◌+◌, ◌<◌, ◌≤◌, Bool, true, false, not, ◌&&◌, cond, ◌==◌, List, [], ◌∷◌, ◌++◌, length, map, filter, flat_map, slice_index, slice_index_or, get_or, refl, ◌∙◌, sym, ap, subst, inl, inr, arith, eqb-true, eq-eqb, append-nil}
 use Rattle.std.specs.List.{range_with_len}
 use Rattle.std.proofs.lemmas.Bool.{ne_eqb, and_from, not_from_false}
 use Rattle.std.proofs.lemmas.List.{get_or_default, map-id}
@@ -11,7 +11,9 @@ use Rattle.graph_core.specs.declared.fragment.Reading.{Reading}
 use Rattle.graph_core.specs.Graphs.{count_of}
 use Rattle.graph_core.specs.Fragments.{owner, numbers_below, is_read_in}
 use Rattle.fragment_cut.specs.Filing.{Filed, file_under, filed_rows}
-use Rattle.fragment_cut.specs.Owners.{owners_of}
+use Rattle.graph_core.specs.Fragments.{StandsAt}
+use Rattle.graph_core.proofs.Cutting.{stands_left, stands_right, stands_cases}
+use Rattle.fragment_cut.specs.Owners.{owners_of, StandOnce, StandsNowhere}
 
 pub numbers_more : (n : ℕ) → numbers_below (n + 1) ≡ numbers_below n ++ n ∷ []
 numbers_more n = sym (map-id (numbers_below (n + 1))) ∙ map-range_with_len_more (λ k. k) 0 n n (omega arith) ∙ ap (λ l. l ++ n ∷ []) (map-id (numbers_below n))
@@ -59,3 +61,25 @@ filed_rows_more vertices rows n row old new h r e =
     let f : ℕ → List Filed = λ p. map (file_under p) (slice_index_or rows (slice_index vertices p) []) in
     e ∙ ap (λ l. l ++ map (file_under n) row) h ∙ ap (λ x. filed_rows vertices rows n ++ map (file_under n) x) r
     ∙ sym (ap (flat_map f) (numbers_more n) ∙ flat_map-append f (numbers_below n) (n ∷ []) ∙ ap (λ l. flat_map f (numbers_below n) ++ l) (append-nil (f n)))
+
+-- first the owned vertices are numbered, and then the mirrors
+module _ (owned mirrors before first after : List ℕ) (once : StandOnce (owned ++ mirrors))
+    (first_numbered : (k v : ℕ) → StandsAt owned k v → slice_index first v ≡ 0 + k)
+    (then_numbered : (k v : ℕ) → StandsAt mirrors k v → slice_index after v ≡ length owned + k)
+    (then_others : (v : ℕ) → StandsNowhere mirrors v → slice_index after v ≡ slice_index first v) where
+  pub numbered_all : (p v : ℕ) → StandsAt (owned ++ mirrors) p v → slice_index after v ≡ p
+  numbered_all p v h = elim (stands_cases owned mirrors p v h) [
+    | inl s ↦
+        let apart : StandsNowhere mirrors v = λ k m. let same = once p (length owned + k) v h (stands_right owned mirrors k v m) in let l = s.0 in omega (arith, same, l) in
+        let e = first_numbered p v s in
+        then_others v apart ∙ omega (arith, e)
+    | inr s ↦ let e = s.1 in then_numbered s.0 v s.2 ∙ sym e
+  ]
+
+pub once_left : (owned mirrors : List ℕ) → StandOnce (owned ++ mirrors) → StandOnce owned
+once_left owned mirrors once j k v h l = once j k v (stands_left owned mirrors j v h) (stands_left owned mirrors k v l)
+
+pub once_right : (owned mirrors : List ℕ) → StandOnce (owned ++ mirrors) → StandOnce mirrors
+once_right owned mirrors once j k v h l =
+    let e = once (length owned + j) (length owned + k) v (stands_right owned mirrors j v h) (stands_right owned mirrors k v l) in
+    omega (arith, e)

@@ -3,6 +3,7 @@
 
 mod filed;
 mod filing;
+mod half;
 mod owner;
 mod piece;
 mod reads;
