@@ -4,3 +4,5 @@ pub mod SortedFiled
 pub mod EdgeFiles
 pub mod Pieces
 pub mod Placing
+pub mod HalfBuilt
+pub mod RouteTables

@@ -1,11 +1,12 @@
 -- The tables of a fragment are the rows of its readings and readers.
 use Rattle.std.proofs.Common.{◌≡◌, ◌≢◌, ℕ, zero, suc, ◌+◌, ◌<◌, ◌≤◌, ◌⊎◌, Bool, true, false, not, ◌&&◌, ◌||◌, cond, ◌==◌, List, [], ◌∷◌, ◌++◌, length, map, filter, flat_map, slice_index, slice_index_or, get_or, Contains, refl, ◌∙◌, sym, ap, subst, inl, inr, arith, Some, None, eqb-true, eq-eqb}
-use Rattle.std.specs.Prelude.{sum_by, nat_lt, option_to_list, position}
-use Rattle.std.specs.List.{range_with_len, list_any, position_or_len}
+use Rattle.std.specs.Prelude.{All, sum_by, nat_lt, option_to_list, position}
+use Rattle.std.specs.List.{AllByRecursion, range_with_len, list_any, position_or_len}
 use Rattle.std.proofs.lemmas.Bool.{ne_eqb, eqb-false, lt-ltb, cases_eq, cases_lt, both_ways}
 use Rattle.std.proofs.lemmas.List.{length-map, length-append, get_or-map, get_or_default}
 use Rattle.std.proofs.lemmas.List.FromFn.{fill_by_all, length-map-range_with_len, get_or-map-range_with_len, get_or-range_with_len, length-range_with_len}
-use Rattle.std.proofs.lemmas.List.Sums.{sum_by-cons, sum_by-append, position_or_len_is}
+use Rattle.std.proofs.lemmas.List.Sums.{sum_by-cons, sum_by-append, position_or_len_is, length-filter, count_by-le-length}
+use Rattle.std.proofs.lemmas.List.Elements.{All-from_recursion}
 use Rattle.std.proofs.lemmas.List.Folds.{fold-map, list_any-append}
 use Rattle.graph_core.specs.declared.job.Job.{Job}
 use Rattle.graph_core.specs.declared.fragment.Reading.{Reading}
@@ -264,3 +265,83 @@ module _ (job : Job) (is : IsJob job) (i : ℕ) (small : i < job.settings.fragme
           ∙ any-sorted (λ r. r.place == v) (map reading_at (reads_of job.graph job.query w))
           ∙ any-map (λ (r : Reading). r.place == v) reading_at (reads_of job.graph job.query w))
       ∙ any_by_places (λ w. list_any (λ r. r.vertex == v) (reads_of job.graph job.query w)) (owned_of job i)
+
+-- ---- what holds of each entry
+
+module _ {X : Type 0} (Q : X → Type 0) where
+  every_from : (xs : List X) → ((x : X) → Contains xs x → Q x) → AllByRecursion Q xs
+  every_from [] h = tt
+  every_from (x ∷ xs) h = (h x (contains_here x xs), every_from xs (λ y c. h y (contains_later x xs y c)))
+
+  every-append : (xs ys : List X) → AllByRecursion Q xs → AllByRecursion Q ys → AllByRecursion Q (xs ++ ys)
+  every-append [] ys h k = k
+  every-append (x ∷ xs) ys h k = (h.0, every-append xs ys h.1 k)
+
+  every-map : {W : Type 0} (f : W → X) (ws : List W) → AllByRecursion (λ w. Q (f w)) ws → AllByRecursion Q (map f ws)
+  every-map f [] h = tt
+  every-map f (w ∷ ws) h = (h.0, every-map f ws h.1)
+
+  every-rows : (f : ℕ → List X) (a n : ℕ) → ((k : ℕ) → a ≤ k → k < a + n → AllByRecursion Q (f k)) → AllByRecursion Q (flat_map f (range_with_len a n))
+  every-rows f a zero h = tt
+  every-rows f a (suc n) h = every-append (f a) (flat_map f (range_with_len (a + 1) n)) (h a (omega arith) (omega arith)) (every-rows f (a + 1) n (λ k l m. h k (omega (arith, l)) (omega (arith, m))))
+
+module _ (Q : Reading → Type 0) where
+  every_step : (c : Bool) (a b : Reading) (bs : List Reading) → Q a → Q b → AllByRecursion Q bs → AllByRecursion Q (insert_reading a bs) → AllByRecursion Q (cond c (b ∷ insert_reading a bs) (a ∷ b ∷ bs))
+  every_step true a b bs pa pb ps qs = (pb, qs)
+  every_step false a b bs pa pb ps qs = (pa, (pb, ps))
+
+  every-insert : (a : Reading) (bs : List Reading) → Q a → AllByRecursion Q bs → AllByRecursion Q (insert_reading a bs)
+  every-insert a [] pa ps = (pa, tt)
+  every-insert a (b ∷ bs) pa ps = every_step (comes_before b a) a b bs pa ps.0 ps.1 (every-insert a bs pa ps.1)
+
+  every-sorted : (bs : List Reading) → AllByRecursion Q bs → AllByRecursion Q (sorted_readings bs)
+  every-sorted [] ps = tt
+  every-sorted (a ∷ bs) ps = every-insert a (sorted_readings bs) ps.0 (every-sorted bs ps.1)
+
+filtered_few : (p : ℕ → Bool) (n : ℕ) → length (filter p (numbers_below n)) ≤ n
+filtered_few p n = omega (arith, length-filter p (numbers_below n), count_by-le-length p (numbers_below n), length-range_with_len 0 n)
+
+module _ (job : Job) (is : IsJob job) (i : ℕ) (small : i < job.settings.fragments) where
+  every-filed : (Q : Filed → Type 0) → ((p : ℕ) (r : Read) → p < length (owned_of job i) → Contains (reads_of job.graph job.query (slice_index (owned_of job i) p)) r → Q (record { row = p; place = r.vertex; weight = r.weight }))
+      → All Q (filed_rows (owned_of job i) (reads_table job.graph job.query) (length (owned_of job i)))
+  every-filed Q h =
+      All-from_recursion Q _ (every-rows Q (λ p. map (file_under p) (slice_index_or (reads_table job.graph job.query) (slice_index (owned_of job i) p) [])) 0 (length (owned_of job i)) (λ p l m.
+          let m2 : p < length (owned_of job i) = omega (arith, m) in
+          let reads = reads_of job.graph job.query (slice_index (owned_of job i) p) in
+          let R : Reading → Type 0 = λ r. Q (file_under p r) in
+          subst (λ row. AllByRecursion Q (map (file_under p) row)) (sym (reads-row job is i small p m2))
+              (every-map Q (file_under p) (sorted_readings (map reading_at reads)) (every-sorted R (map reading_at reads) (every-map R reading_at reads (every_from (λ r. R (reading_at r)) reads (λ r c. h p r m2 c)))))))
+
+  pub filed_inside : All (λ (e : Filed). e.place < count_of job.graph) (filed_rows (owned_of job i) (reads_table job.graph job.query) (length (owned_of job i)))
+  filed_inside = every-filed (λ e. e.place < count_of job.graph) (λ p r h c.
+      let s = read_stands job is i small p (slice_index (owned_of job i) p) r (h, refl) c in places_inside job is i small s.0 r.vertex s.1)
+
+  pub filed_owned : All (λ (e : Filed). e.row < length (owned_of job i)) (filed_rows (owned_of job i) (reads_table job.graph job.query) (length (owned_of job i)))
+  filed_owned = every-filed (λ e. e.row < length (owned_of job i)) (λ p r h c. h)
+
+  pub filed_placed : (P : List ℕ) → ((p v : ℕ) → StandsAt (places_of job i) p v → slice_index P v ≡ p)
+      → All (λ (e : Filed). slice_index P e.place < length (places_of job i)) (filed_rows (owned_of job i) (reads_table job.graph job.query) (length (owned_of job i)))
+  filed_placed P right = every-filed (λ e. slice_index P e.place < length (places_of job i)) (λ p r h c.
+      let s = read_stands job is i small p (slice_index (owned_of job i) p) r (h, refl) c in
+      let e = right s.0 r.vertex s.1 in
+      let l = s.1.0 in
+      omega (arith, e, l))
+
+  pub few_owned : length (owned_of job i) ≤ 1000000
+  few_owned = let few = is.graph.few_vertices in omega (arith, few, filtered_few (λ v. owner job v == i) (count_of job.graph))
+
+  pub few_mirrors : length (mirrors_of job i) ≤ 1000000
+  few_mirrors = let few = is.graph.few_vertices in omega (arith, few, filtered_few (λ v. not (owner job v == i) && is_read_in job i v) (count_of job.graph))
+
+  pub all_owned_inside : All (λ v. v < length (reads_table job.graph job.query)) (owned_of job i)
+  all_owned_inside k d h =
+      let n = length-map-range_with_len (λ v. sorted_readings (map reading_at (reads_of job.graph job.query v))) 0 (count_of job.graph) in
+      let r = owned_inside job is i small k (slice_index (owned_of job i) k) (h, refl) in
+      let e = get_or_default (owned_of job i) k d 0 h in
+      omega (arith, n, r, e)
+
+  pub all_places_inside : All (λ v. v < count_of job.graph) (places_of job i)
+  all_places_inside k d h =
+      let r = places_inside job is i small k (slice_index (places_of job i) k) (h, refl) in
+      let e = get_or_default (places_of job i) k d 0 h in
+      omega (arith, r, e)

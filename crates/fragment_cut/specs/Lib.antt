@@ -1,3 +1,4 @@
 pub mod Filing
 pub mod Owners
 pub mod Halves
+pub mod Routing

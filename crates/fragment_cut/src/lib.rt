@@ -7,5 +7,6 @@ mod half;
 mod owner;
 mod piece;
 mod reads;
+mod routing;
 
 pub use owner::owner_of;
