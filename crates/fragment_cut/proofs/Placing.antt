@@ -273,15 +273,15 @@ module _ {X : Type 0} (Q : X → Type 0) where
   every_from [] h = tt
   every_from (x ∷ xs) h = (h x (contains_here x xs), every_from xs (λ y c. h y (contains_later x xs y c)))
 
-  every-append : (xs ys : List X) → AllByRecursion Q xs → AllByRecursion Q ys → AllByRecursion Q (xs ++ ys)
+  pub every-append : (xs ys : List X) → AllByRecursion Q xs → AllByRecursion Q ys → AllByRecursion Q (xs ++ ys)
   every-append [] ys h k = k
   every-append (x ∷ xs) ys h k = (h.0, every-append xs ys h.1 k)
 
-  every-map : {W : Type 0} (f : W → X) (ws : List W) → AllByRecursion (λ w. Q (f w)) ws → AllByRecursion Q (map f ws)
+  pub every-map : {W : Type 0} (f : W → X) (ws : List W) → AllByRecursion (λ w. Q (f w)) ws → AllByRecursion Q (map f ws)
   every-map f [] h = tt
   every-map f (w ∷ ws) h = (h.0, every-map f ws h.1)
 
-  every-rows : (f : ℕ → List X) (a n : ℕ) → ((k : ℕ) → a ≤ k → k < a + n → AllByRecursion Q (f k)) → AllByRecursion Q (flat_map f (range_with_len a n))
+  pub every-rows : (f : ℕ → List X) (a n : ℕ) → ((k : ℕ) → a ≤ k → k < a + n → AllByRecursion Q (f k)) → AllByRecursion Q (flat_map f (range_with_len a n))
   every-rows f a zero h = tt
   every-rows f a (suc n) h = every-append (f a) (flat_map f (range_with_len (a + 1) n)) (h a (omega arith) (omega arith)) (every-rows f (a + 1) n (λ k l m. h k (omega (arith, l)) (omega (arith, m))))
 

@@ -1,17 +1,20 @@
 -- The rows of all mirrors, filed under their vertices, are the routes.
 use Rattle.std.proofs.Common.{◌≡◌, ◌≢◌, ℕ, zero, suc, ◌+◌, ◌<◌, ◌≤◌, Bool, true, false, not, ◌&&◌, cond, ◌==◌, List, [], ◌∷◌, ◌++◌, length, map, filter, flat_map, slice_index, slice_index_or, get_or, Option, Some, None, refl, ◌∙◌, sym, ap, subst, inl, inr, arith, eqb-true, eq-eqb}
 use Rattle.std.specs.Prelude.{All, sum_by, nat_lt, option_to_list, position}
-use Rattle.std.specs.List.{range_with_len, position_or_len}
+use Rattle.std.specs.List.{AllByRecursion, range_with_len, position_or_len}
 use Rattle.std.proofs.lemmas.Bool.{ne_eqb, eqb-false, cases_eq, cases_lt}
 use Rattle.std.proofs.lemmas.Bool.Decides.{nat_tests}
-use Rattle.std.proofs.lemmas.List.{map-append, append-nil}
+use Rattle.std.proofs.lemmas.List.{map-append, append-nil, append_assoc, get_or_default}
+use Rattle.std.proofs.lemmas.List.FromFn.{map-range_with_len_more, get_or-map-range_with_len, length-map-range_with_len}
+use Rattle.std.proofs.lemmas.List.Concat.{flat_map-append}
+use Rattle.std.proofs.lemmas.List.Elements.{All-from_recursion, recursion_from_All}
 use Rattle.std.proofs.lemmas.List.Quantifiers.{position-Some}
 use Rattle.std.proofs.lemmas.List.Sums.{fails_before_first}
 use Rattle.graph_core.specs.declared.job.Job.{Job}
 use Rattle.graph_core.specs.declared.fragment.Reading.{Reading}
 use Rattle.graph_core.specs.declared.fragment.Route.{Route}
 use Rattle.graph_core.specs.Graphs.{count_of, IsJob}
-use Rattle.graph_core.specs.Fragments.{owner, numbers_below, mirrors_of, is_read_in, route_to, routes_of, sorted_readings, comes_before, StandsAt}
+use Rattle.graph_core.specs.Fragments.{owner, numbers_below, owned_of, mirrors_of, is_read_in, route_to, routes_of, sorted_readings, comes_before, StandsAt}
 use Rattle.graph_core.proofs.Cutting as Cutting
 use Rattle.fragment_cut.specs.Filing.{Filed, reading_of, filed_under, table}
 use Rattle.fragment_cut.specs.Owners.{StandOnce}
@@ -19,6 +22,10 @@ use Rattle.fragment_cut.specs.Routing.{filed_mirror, filed_mirrors, route_of, re
 use Rattle.fragment_cut.proofs.InOrder.{goes, Rises, RisesFrom, rising_is_sorted, SameSums}
 use Rattle.fragment_cut.proofs.SortedFiled.{map_same}
 use Rattle.fragment_cut.proofs.EdgeFiles.{under-append}
+use Rattle.fragment_cut.specs.Halves.{HalfLists, half_of}
+use Rattle.fragment_cut.proofs.Pieces.{numbers_more}
+use Rattle.fragment_cut.proofs.Placing.{every-rows}
+use Rattle.fragment_cut.proofs.HalfBuilt.{all_at}
 
 -- ---- one fragment
 
@@ -102,3 +109,67 @@ module _ (job : Job) (v : ℕ) where
 
 pub routes_table_is : (job : Job) → table (flat_map (λ k. filed_mirrors k (mirrors_of job k)) (numbers_below job.settings.fragments)) (count_of job.graph) ≡ routes_table job
 routes_table_is job = map_same _ (λ v. map reading_to (routes_of job v)) (routes-row job) (numbers_below (count_of job.graph))
+
+-- ---- steps of the loops
+
+pub mirrors_more : (k : ℕ) (mirrors : List ℕ) (first old new : List Filed) (m : ℕ) → new ≡ old ++ filed_mirror k mirrors m ∷ [] → old ≡ first ++ map (filed_mirror k mirrors) (numbers_below m) → new ≡ first ++ map (filed_mirror k mirrors) (numbers_below (m + 1))
+mirrors_more k mirrors first old new m e h =
+    e ∙ ap (λ l. l ++ filed_mirror k mirrors m ∷ []) h ∙ append_assoc first (map (filed_mirror k mirrors) (numbers_below m)) (filed_mirror k mirrors m ∷ [])
+    ∙ ap (λ l. first ++ l) (sym (map-range_with_len_more (filed_mirror k mirrors) 0 m m (omega arith)))
+
+pub halves_more : (job : Job) (k : ℕ) (mirrors : List ℕ) (old new : List Filed) → new ≡ old ++ filed_mirrors k mirrors → mirrors ≡ mirrors_of job k → old ≡ flat_map (λ k. filed_mirrors k (mirrors_of job k)) (numbers_below k)
+    → new ≡ flat_map (λ k. filed_mirrors k (mirrors_of job k)) (numbers_below (k + 1))
+halves_more job k mirrors old new e f h =
+    let F : ℕ → List Filed = λ k. filed_mirrors k (mirrors_of job k) in
+    e ∙ ap (λ l. l ++ filed_mirrors k mirrors) h ∙ ap (λ ms. flat_map F (numbers_below k) ++ filed_mirrors k ms) f
+    ∙ sym (ap (flat_map F) (numbers_more k) ∙ flat_map-append F (numbers_below k) (k ∷ []) ∙ ap (λ l. flat_map F (numbers_below k) ++ l) (append-nil (F k)))
+
+pub half_at : (job : Job) (halves : List HalfLists) (k : ℕ) (half : HalfLists) → halves ≡ map (half_of job) (numbers_below job.settings.fragments) → k < job.settings.fragments → half ≡ get_or halves k half → half ≡ half_of job k
+half_at job halves k half e h r = r ∙ ap (λ l. get_or l k half) e ∙ get_or-map-range_with_len (half_of job) 0 job.settings.fragments k k half h (omega arith)
+
+pub halves_len : (job : Job) (halves : List HalfLists) → halves ≡ map (half_of job) (numbers_below job.settings.fragments) → length halves ≡ job.settings.fragments
+halves_len job halves e = ap length e ∙ length-map-range_with_len (half_of job) 0 job.settings.fragments
+
+-- the entries name vertices
+every_range : (Q : Filed → Type 0) (h : ℕ → Filed) (a n : ℕ) → ((k : ℕ) → a ≤ k → k < a + n → Q (h k)) → AllByRecursion Q (map h (range_with_len a n))
+every_range Q h a zero q = tt
+every_range Q h a (suc n) q = (q a (omega arith) (omega arith), every_range Q h (a + 1) n (λ k l m. q k (omega (arith, l)) (omega (arith, m))))
+
+pub mirrors_filed_inside : (job : Job) → All (λ (e : Filed). e.row < count_of job.graph) (flat_map (λ k. filed_mirrors k (mirrors_of job k)) (numbers_below job.settings.fragments))
+mirrors_filed_inside job =
+    let Q : Filed → Type 0 = λ e. e.row < count_of job.graph in
+    All-from_recursion Q (flat_map (λ k. filed_mirrors k (mirrors_of job k)) (numbers_below job.settings.fragments)) (every-rows Q (λ k. filed_mirrors k (mirrors_of job k)) 0 job.settings.fragments (λ k _ _.
+        every_range Q (filed_mirror k (mirrors_of job k)) 0 (length (mirrors_of job k)) (λ m _ l.
+            let r = Cutting.passes (λ v. not (owner job v == k) && is_read_in job k v) 0 (count_of job.graph) m (slice_index (mirrors_of job k) m) (omega (arith, l), refl) in
+            let x = r.2 in omega (arith, x))))
+
+pub filed_halves_inside : (job : Job) (filed : List Filed) (n : ℕ) → filed ≡ flat_map (λ k. filed_mirrors k (mirrors_of job k)) (numbers_below job.settings.fragments) → n ≡ count_of job.graph → All (λ (e : Filed). e.row < n) filed
+filed_halves_inside job filed n e f = all_at (λ (x : Filed). x.row) filed _ n (count_of job.graph) e f (mirrors_filed_inside job)
+
+pub routes_made : (job : Job) (filed : List Filed) (n : ℕ) → filed ≡ flat_map (λ k. filed_mirrors k (mirrors_of job k)) (numbers_below job.settings.fragments) → n ≡ count_of job.graph → table filed n ≡ routes_table job
+routes_made job filed n e f = ap (λ l. table l n) e ∙ ap (table (flat_map (λ k. filed_mirrors k (mirrors_of job k)) (numbers_below job.settings.fragments))) f ∙ routes_table_is job
+
+-- ---- the routes of a fragment's vertices
+
+read_back : (routes : List Route) → map route_of (map reading_to routes) ≡ routes
+read_back [] = refl
+read_back (r ∷ routes) = ap (λ l. r ∷ l) (read_back routes)
+
+pub routes_in_is : (job : Job) (v : ℕ) → v < count_of job.graph → routes_in (routes_table job) v ≡ routes_of job v
+routes_in_is job v h = ap (map route_of) (get_or-map-range_with_len (λ v. map reading_to (routes_of job v)) 0 (count_of job.graph) v v [] h (omega arith)) ∙ read_back (routes_of job v)
+
+map_agree : {X Y : Type 0} (f g : X → Y) (xs : List X) → AllByRecursion (λ x. f x ≡ g x) xs → map f xs ≡ map g xs
+map_agree f g [] h = refl
+map_agree f g (x ∷ xs) h = ap (λ y. y ∷ map f xs) h.0 ∙ ap (λ l. g x ∷ l) (map_agree f g xs h.1)
+
+pub owned_routes : (job : Job) (i : ℕ) → map (routes_in (routes_table job)) (owned_of job i) ≡ map (routes_of job) (owned_of job i)
+owned_routes job i =
+    let P : ℕ → Type 0 = λ v. routes_in (routes_table job) v ≡ routes_of job v in
+    map_agree (routes_in (routes_table job)) (routes_of job) (owned_of job i) (recursion_from_All P (owned_of job i) (λ k d h.
+        let r = Cutting.passes (λ v. owner job v == i) 0 (count_of job.graph) k (slice_index (owned_of job i) k) (h, refl) in
+        let x = r.2 in
+        let e = get_or_default (owned_of job i) k d 0 h in
+        routes_in_is job (get_or (owned_of job i) k d) (omega (arith, x, e))))
+
+pub routes_len : (job : Job) → length (routes_table job) ≡ count_of job.graph
+routes_len job = length-map-range_with_len (λ v. map reading_to (routes_of job v)) 0 (count_of job.graph)

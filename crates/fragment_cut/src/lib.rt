@@ -1,6 +1,7 @@
 //! Cuts a graph into fragments: each vertex, and so each equation, is owned by one of them.
 #![tactic(auto)]
 
+mod cutting;
 mod filed;
 mod filing;
 mod half;
@@ -9,4 +10,5 @@ mod piece;
 mod reads;
 mod routing;
 
+pub use cutting::fragment;
 pub use owner::owner_of;
