@@ -6,3 +6,4 @@ pub mod Pieces
 pub mod Placing
 pub mod HalfBuilt
 pub mod RouteTables
+pub mod Joining

@@ -2,3 +2,4 @@ pub mod Filing
 pub mod Owners
 pub mod Halves
 pub mod Routing
+pub mod Cut
