@@ -36,13 +36,13 @@ module _ (job : Job) (is : IsJob job) (i : ℕ) (small : i < job.settings.fragme
   pub placed_rows : (n : ℕ) → n ≡ length (owned_of job i) → All (λ (e : Filed). e.row < n) placed
   placed_rows n e =
       all_at (λ (x : Filed). x.row) placed _ n (length (owned_of job i)) placed_is e
-          (All-map (λ (x : Filed). x.row < length (owned_of job i)) (with_place P) (filed_rows (owned_of job i) (reads_table job.graph job.query) (length (owned_of job i))) (filed_owned job is i small))
+      (All-map (λ (x : Filed). x.row < length (owned_of job i)) (with_place P) (filed_rows (owned_of job i) (reads_table job.graph job.query) (length (owned_of job i))) (filed_owned job is i small))
 
   pub turned_rows : (n : ℕ) → n ≡ length (places_of job i) → All (λ (e : Filed). e.row < n) (map turned placed)
   turned_rows n e =
       all_at (λ (x : Filed). x.row) (map turned placed) _ n (length (places_of job i)) (ap (map turned) placed_is) e
-          (All-map (λ (x : Filed). x.row < length (places_of job i)) turned (map (with_place P) (filed_rows (owned_of job i) (reads_table job.graph job.query) (length (owned_of job i))))
-              (All-map (λ (x : Filed). x.place < length (places_of job i)) (with_place P) (filed_rows (owned_of job i) (reads_table job.graph job.query) (length (owned_of job i))) (filed_placed job is i small P right)))
+      (All-map (λ (x : Filed). x.row < length (places_of job i)) turned (map (with_place P) (filed_rows (owned_of job i) (reads_table job.graph job.query) (length (owned_of job i))))
+      (All-map (λ (x : Filed). x.place < length (places_of job i)) (with_place P) (filed_rows (owned_of job i) (reads_table job.graph job.query) (length (owned_of job i))) (filed_placed job is i small P right)))
 
   pub half_is : (owned mirrors : List ℕ) (readings readers : List (List Reading)) (n m : ℕ) → owned ≡ owned_of job i → mirrors ≡ mirrors_of job i → n ≡ length (owned_of job i) → m ≡ length (places_of job i)
       → readings ≡ table placed n → readers ≡ table (map turned placed) m → (let h : HalfLists = record { owned = owned; mirrors = mirrors; readings = readings; readers = readers } in h) ≡ half_of job i

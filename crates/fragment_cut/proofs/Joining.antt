@@ -44,10 +44,10 @@ half_end job halves yielded number made e f g h = h ∙ ap (λ n. map (fragment_
 pub half_owned_inside : (job : Job) (i : ℕ) (half : HalfLists) (rows : List (List Reading)) (owned : List ℕ) → half ≡ half_of job i → rows ≡ routes_table job → owned ≡ half.owned → All (λ v. v < length rows) owned
 half_owned_inside job i half rows owned e f g =
     all_at (λ (v : ℕ). v) owned (owned_of job i) (length rows) (count_of job.graph) (g ∙ ap (λ (h : HalfLists). h.owned) e) (ap length f ∙ routes_len job) (λ k d h.
-        let r = Cutting.passes (λ v. owner job v == i) 0 (count_of job.graph) k (get_or (owned_of job i) k 0) (h, refl) in
-        let x = r.2 in
-        let q = get_or_default (owned_of job i) k d 0 h in
-        omega (arith, x, q))
+    let r = Cutting.passes (λ v. owner job v == i) 0 (count_of job.graph) k (get_or (owned_of job i) k 0) (h, refl) in
+    let x = r.2 in
+    let q = get_or_default (owned_of job i) k d 0 h in
+    omega (arith, x, q))
 
 pub whole_is : (job : Job) (i : ℕ) (half : HalfLists) (rows : List (List Reading)) (owned : List ℕ) (own : List (List Route)) → half ≡ half_of job i → rows ≡ routes_table job → owned ≡ half.owned → own ≡ map (routes_in rows) owned → whole half i own ≡ fragment_of job i
 whole_is job i half rows owned own e f g h =

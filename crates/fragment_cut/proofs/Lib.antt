@@ -7,3 +7,4 @@ pub mod Placing
 pub mod HalfBuilt
 pub mod RouteTables
 pub mod Joining
+pub mod OnceEach

@@ -94,5 +94,5 @@ module _ (job : Job) (is : IsJob job) where
         subst (λ (x : FragmentLists). IsPermutation (reads_of job.graph job.query v) (map (read_at x) (slice_index_or x.readings p []))) (sym (the-fragment i t.0)) at_reads;
   }
 
-pub once_each_at : (job : Job) (fragments : List FragmentLists) → IsJob job → fragments ≡ fragments_of job → EachEquationOnce job fragments
-once_each_at job fragments is e = subst (EachEquationOnce job) (sym e) (once_each job is)
+pub once_each_at : (job : Job) (made : List FragmentLists) → IsJob job → made ≡ fragments_of job → EachEquationOnce job made
+once_each_at job made is e = subst (EachEquationOnce job) (sym e) (once_each job is)

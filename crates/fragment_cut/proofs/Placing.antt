@@ -108,8 +108,8 @@ module _ (job : Job) (is : IsJob job) (i : ℕ) (small : i < job.settings.fragme
   place_is p v h =
       let vs = places_of job i in
       let first : position_or_len (λ u. u == v) vs ≡ p = position_or_len_is (λ u. u == v) vs p 0 (omega (arith, h.0))
-          (λ k l. ne_eqb (slice_index vs k) v (λ e. let same = places_once k p v (omega (arith, l, h.0), e) h in omega (arith, same, l)))
-          (λ l. eq-eqb (slice_index vs p) v h.1) in
+      (λ k l. ne_eqb (slice_index vs k) v (λ e. let same = places_once k p v (omega (arith, l, h.0), e) h in omega (arith, same, l)))
+      (λ l. eq-eqb (slice_index vs p) v h.1) in
       ap (λ q. option_to_list (cond (nat_lt q (length vs)) (Some q) None)) first ∙ ap (λ b. option_to_list (cond b (Some p) None)) (lt-ltb p (length vs) h.0)
 
   pub owned_stands : (p : ℕ) → p < length (owned_of job i) → StandsAt (owned_of job i) p (slice_index (owned_of job i) p)
@@ -135,11 +135,11 @@ module _ (job : Job) (is : IsJob job) (i : ℕ) (small : i < job.settings.fragme
   sum-filed g =
       sum-flat_map g (λ p. map (file_under p) (slice_index_or (reads_table job.graph job.query) (slice_index (owned_of job i) p) [])) (numbers_below (length (owned_of job i)))
       ∙ sum_range_same _ _ 0 (length (owned_of job i)) (λ p l m.
-          let v = slice_index (owned_of job i) p in
-          ap (λ row. sum_by g (map (file_under p) row)) (reads-row p (omega (arith, m)))
-          ∙ sum-map g (file_under p) (sorted_readings (map reading_at (reads_of job.graph job.query v)))
-          ∙ sum_by-sorted_readings (λ r. g (file_under p r)) (map reading_at (reads_of job.graph job.query v))
-          ∙ sum-map (λ r. g (file_under p r)) reading_at (reads_of job.graph job.query v))
+      let v = slice_index (owned_of job i) p in
+      ap (λ row. sum_by g (map (file_under p) row)) (reads-row p (omega (arith, m)))
+      ∙ sum-map g (file_under p) (sorted_readings (map reading_at (reads_of job.graph job.query v)))
+      ∙ sum_by-sorted_readings (λ r. g (file_under p r)) (map reading_at (reads_of job.graph job.query v))
+      ∙ sum-map (λ r. g (file_under p r)) reading_at (reads_of job.graph job.query v))
 
   -- ---- the readings and readers, where P is the place of each vertex
 
@@ -169,7 +169,7 @@ module _ (job : Job) (is : IsJob job) (i : ℕ) (small : i < job.settings.fragme
         ∙ sum-placed (λ e. cond (e.row == p) (f (reading_of e)) 0)
         ∙ sum_range_one (λ k. sum_by (λ r. cond (k == p) (term r) 0) (reads_of job.graph job.query (vertex_at k))) p 0 (length (owned_of job i)) (λ k d. sum-zero _ (reads_of job.graph job.query (vertex_at k)) (λ r. when_other k p (term r) d)) (omega arith) (omega (arith, h))
         ∙ sum-same (λ r. cond (p == p) (term r) 0) (λ r. sum_by f (map (λ q. record { place = q; weight = r.weight }) (place_of job i r.vertex))) (reads_of job.graph job.query (vertex_at p))
-            (λ r c. when_same p (term r) ∙ sum_one f (record { place = slice_index P r.vertex; weight = r.weight }) ∙ sym (ap (λ ps. sum_by f (map (λ q. record { place = q; weight = r.weight }) ps)) (placed_read p h r c)))
+        (λ r c. when_same p (term r) ∙ sum_one f (record { place = slice_index P r.vertex; weight = r.weight }) ∙ sym (ap (λ ps. sum_by f (map (λ q. record { place = q; weight = r.weight }) ps)) (placed_read p h r c)))
         ∙ sym (sum-flat_map f (λ r. map (λ q. record { place = q; weight = r.weight }) (place_of job i r.vertex)) (reads_of job.graph job.query (vertex_at p)))
 
     pub readings_are : table (map (with_place P) filed_in) (length (owned_of job i)) ≡ map (readings_of job i) (owned_of job i)
@@ -201,18 +201,18 @@ module _ (job : Job) (is : IsJob job) (i : ℕ) (small : i < job.settings.fragme
         ∙ sum-map (λ e. cond (e.row == q) (f (reading_of e)) 0) turned (map (with_place P) filed_in)
         ∙ sum-placed (λ e. cond (e.place == q) (f (record { place = e.row; weight = e.weight })) 0)
         ∙ sum_range_same _ (λ p. sum_by f (row (vertex_at p))) 0 (length (owned_of job i)) (λ p _ m.
-            let h : p < length (owned_of job i) = omega (arith, m) in
-            sum-same (λ r. cond (slice_index P r.vertex == q) (f (record { place = p; weight = r.weight })) 0) (λ r. sum_by f (inner (vertex_at p) r)) (reads_of job.graph job.query (vertex_at p))
-                (λ r c. ap (λ b. cond b (f (record { place = p; weight = r.weight })) 0) (same_place q p r l h c)
-                    ∙ reader_term f p u r (r.vertex == u) (place_is p (vertex_at p) (owned_placed p (vertex_at p) (owned_stands p h))))
-            ∙ sym (sum-flat_map f (inner (vertex_at p)) (reads_of job.graph job.query (vertex_at p))))
+        let h : p < length (owned_of job i) = omega (arith, m) in
+        sum-same (λ r. cond (slice_index P r.vertex == q) (f (record { place = p; weight = r.weight })) 0) (λ r. sum_by f (inner (vertex_at p) r)) (reads_of job.graph job.query (vertex_at p))
+        (λ r c. ap (λ b. cond b (f (record { place = p; weight = r.weight })) 0) (same_place q p r l h c)
+        ∙ reader_term f p u r (r.vertex == u) (place_is p (vertex_at p) (owned_placed p (vertex_at p) (owned_stands p h))))
+        ∙ sym (sum-flat_map f (inner (vertex_at p)) (reads_of job.graph job.query (vertex_at p))))
         ∙ sum_by_places (λ w. sum_by f (row w)) (owned_of job i)
         ∙ sym (sum-flat_map f row (owned_of job i))
 
     pub readers_are : table (map turned (map (with_place P) filed_in)) (length (places_of job i)) ≡ map (readers_of job i) (places_of job i)
     readers_are =
         map_range_same _ (λ q. readers_of job i (slice_index (places_of job i) q)) 0 (length (places_of job i)) (λ q l m. sorted_same (filed_under (map turned (map (with_place P) filed_in)) q)
-            (flat_map (λ w. flat_map (λ r. cond (r.vertex == slice_index (places_of job i) q) (map (λ p. record { place = p; weight = r.weight }) (place_of job i w)) []) (reads_of job.graph job.query w)) (owned_of job i)) (readers-sums q (omega (arith, m))))
+        (flat_map (λ w. flat_map (λ r. cond (r.vertex == slice_index (places_of job i) q) (map (λ p. record { place = p; weight = r.weight }) (place_of job i w)) []) (reads_of job.graph job.query w)) (owned_of job i)) (readers-sums q (omega (arith, m))))
         ∙ map_by_places (readers_of job i) (places_of job i)
 
 -- ---- what is read
@@ -259,11 +259,11 @@ module _ (job : Job) (is : IsJob job) (i : ℕ) (small : i < job.settings.fragme
       let test : Filed → Bool = λ e. e.place == v in
       any-flat_map test (λ p. map (file_under p) (slice_index_or (reads_table job.graph job.query) (slice_index (owned_of job i) p) [])) (numbers_below (length (owned_of job i)))
       ∙ any_range_same _ (λ p. list_any (λ r. r.vertex == v) (reads_of job.graph job.query (slice_index (owned_of job i) p))) 0 (length (owned_of job i)) (λ p l m.
-          let w = slice_index (owned_of job i) p in
-          ap (λ row. list_any test (map (file_under p) row)) (reads-row job is i small p (omega (arith, m)))
-          ∙ any-map test (file_under p) (sorted_readings (map reading_at (reads_of job.graph job.query w)))
-          ∙ any-sorted (λ r. r.place == v) (map reading_at (reads_of job.graph job.query w))
-          ∙ any-map (λ (r : Reading). r.place == v) reading_at (reads_of job.graph job.query w))
+      let w = slice_index (owned_of job i) p in
+      ap (λ row. list_any test (map (file_under p) row)) (reads-row job is i small p (omega (arith, m)))
+      ∙ any-map test (file_under p) (sorted_readings (map reading_at (reads_of job.graph job.query w)))
+      ∙ any-sorted (λ r. r.place == v) (map reading_at (reads_of job.graph job.query w))
+      ∙ any-map (λ (r : Reading). r.place == v) reading_at (reads_of job.graph job.query w))
       ∙ any_by_places (λ w. list_any (λ r. r.vertex == v) (reads_of job.graph job.query w)) (owned_of job i)
 
 -- ---- what holds of each entry
@@ -306,11 +306,11 @@ module _ (job : Job) (is : IsJob job) (i : ℕ) (small : i < job.settings.fragme
       → All Q (filed_rows (owned_of job i) (reads_table job.graph job.query) (length (owned_of job i)))
   every-filed Q h =
       All-from_recursion Q _ (every-rows Q (λ p. map (file_under p) (slice_index_or (reads_table job.graph job.query) (slice_index (owned_of job i) p) [])) 0 (length (owned_of job i)) (λ p l m.
-          let m2 : p < length (owned_of job i) = omega (arith, m) in
-          let reads = reads_of job.graph job.query (slice_index (owned_of job i) p) in
-          let R : Reading → Type 0 = λ r. Q (file_under p r) in
-          subst (λ row. AllByRecursion Q (map (file_under p) row)) (sym (reads-row job is i small p m2))
-              (every-map Q (file_under p) (sorted_readings (map reading_at reads)) (every-sorted R (map reading_at reads) (every-map R reading_at reads (every_from (λ r. R (reading_at r)) reads (λ r c. h p r m2 c)))))))
+      let m2 : p < length (owned_of job i) = omega (arith, m) in
+      let reads = reads_of job.graph job.query (slice_index (owned_of job i) p) in
+      let R : Reading → Type 0 = λ r. Q (file_under p r) in
+      subst (λ row. AllByRecursion Q (map (file_under p) row)) (sym (reads-row job is i small p m2))
+      (every-map Q (file_under p) (sorted_readings (map reading_at reads)) (every-sorted R (map reading_at reads) (every-map R reading_at reads (every_from (λ r. R (reading_at r)) reads (λ r c. h p r m2 c)))))))
 
   pub filed_inside : All (λ (e : Filed). e.place < count_of job.graph) (filed_rows (owned_of job i) (reads_table job.graph job.query) (length (owned_of job i)))
   filed_inside = every-filed (λ e. e.place < count_of job.graph) (λ p r h c.

@@ -139,9 +139,9 @@ pub mirrors_filed_inside : (job : Job) → All (λ (e : Filed). e.row < count_of
 mirrors_filed_inside job =
     let Q : Filed → Type 0 = λ e. e.row < count_of job.graph in
     All-from_recursion Q (flat_map (λ k. filed_mirrors k (mirrors_of job k)) (numbers_below job.settings.fragments)) (every-rows Q (λ k. filed_mirrors k (mirrors_of job k)) 0 job.settings.fragments (λ k _ _.
-        every_range Q (filed_mirror k (mirrors_of job k)) 0 (length (mirrors_of job k)) (λ m _ l.
-            let r = Cutting.passes (λ v. not (owner job v == k) && is_read_in job k v) 0 (count_of job.graph) m (slice_index (mirrors_of job k) m) (omega (arith, l), refl) in
-            let x = r.2 in omega (arith, x))))
+    every_range Q (filed_mirror k (mirrors_of job k)) 0 (length (mirrors_of job k)) (λ m _ l.
+    let r = Cutting.passes (λ v. not (owner job v == k) && is_read_in job k v) 0 (count_of job.graph) m (slice_index (mirrors_of job k) m) (omega (arith, l), refl) in
+    let x = r.2 in omega (arith, x))))
 
 pub filed_halves_inside : (job : Job) (filed : List Filed) (n : ℕ) → filed ≡ flat_map (λ k. filed_mirrors k (mirrors_of job k)) (numbers_below job.settings.fragments) → n ≡ count_of job.graph → All (λ (e : Filed). e.row < n) filed
 filed_halves_inside job filed n e f = all_at (λ (x : Filed). x.row) filed _ n (count_of job.graph) e f (mirrors_filed_inside job)
@@ -166,10 +166,10 @@ pub owned_routes : (job : Job) (i : ℕ) → map (routes_in (routes_table job)) 
 owned_routes job i =
     let P : ℕ → Type 0 = λ v. routes_in (routes_table job) v ≡ routes_of job v in
     map_agree (routes_in (routes_table job)) (routes_of job) (owned_of job i) (recursion_from_All P (owned_of job i) (λ k d h.
-        let r = Cutting.passes (λ v. owner job v == i) 0 (count_of job.graph) k (slice_index (owned_of job i) k) (h, refl) in
-        let x = r.2 in
-        let e = get_or_default (owned_of job i) k d 0 h in
-        routes_in_is job (get_or (owned_of job i) k d) (omega (arith, x, e))))
+    let r = Cutting.passes (λ v. owner job v == i) 0 (count_of job.graph) k (slice_index (owned_of job i) k) (h, refl) in
+    let x = r.2 in
+    let e = get_or_default (owned_of job i) k d 0 h in
+    routes_in_is job (get_or (owned_of job i) k d) (omega (arith, x, e))))
 
 pub routes_len : (job : Job) → length (routes_table job) ≡ count_of job.graph
 routes_len job = length-map-range_with_len (λ v. map reading_to (routes_of job v)) 0 (count_of job.graph)

@@ -1,6 +1,7 @@
 ghost use Rattle.std.specs.Prelude.{◌≡◌, map, length, IfOk};
 ghost use Rattle.graph_core.specs.Graphs.{count_of, IsJob};
 ghost use Rattle.graph_core.specs.Fragments.{numbers_below, fragments_of};
+ghost use Rattle.fragment_cut.specs.Cut.{EachEquationOnce};
 ghost use Rattle.fragment_cut.specs.Filing.{reads_table};
 ghost use Rattle.fragment_cut.specs.Halves.{half_of};
 ghost use Rattle.fragment_cut.specs.Owners.{owners_of};
@@ -10,8 +11,8 @@ use crate::half::Half;
 use crate::owner::owner_of;
 use crate::reads::reads_table;
 use crate::routing::{routes_by, routes_table};
-use graph_core::{Fragment, Job, Reading, Rows};
 use grape_port::NoMemory;
+use graph_core::{Fragment, Job, Reading, Rows};
 use std::alloc::Global;
 
 /// The fragment that owns each vertex, by index.
@@ -72,6 +73,7 @@ fn joined(
 pub fn fragment(alloc: Global, job: &Job) -> Result<Vec<Fragment>, NoMemory>
     requires { IsJob job.now }
     ensures made { IfOk result (λ fragments. fragments.items ≡ fragments_of job.now) }
+    ensures once { IfOk result (λ fragments. EachEquationOnce job.now fragments.items) }
 {
     let halves = halves(alloc, job)?;
     let routes = routes_table(alloc, job, &halves)?;

@@ -10,8 +10,8 @@ use crate::filing::Filed;
 use crate::piece::{
     filed_reads, marks_of, mirrors_by, number_places, owned_by, place_reads, turned_of,
 };
-use graph_core::{Fragment, FragmentParts, Job, Reading, Route, Rows};
 use grape_port::NoMemory;
+use graph_core::{Fragment, FragmentParts, Job, Reading, Route, Rows};
 use std::alloc::Global;
 use std::marker::Model;
 

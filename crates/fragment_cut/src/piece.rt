@@ -6,12 +6,17 @@ ghost use Rattle.fragment_cut.specs.Filing.{file_under, filed_rows, with_place, 
 ghost use Rattle.fragment_cut.specs.Owners.{owners_of, StandsNowhere, StandOnce};
 
 use crate::filing::Filed;
-use graph_core::{Job, Reading, Rows};
 use grape_port::NoMemory;
+use graph_core::{Job, Reading, Rows};
 use std::alloc::Global;
 
 /// The vertices that a fragment owns, by rising index.
-pub fn owned_by(alloc: Global, job: &Job, owners: &[u32], fragment: u32) -> Result<Vec<u32>, NoMemory>
+pub fn owned_by(
+    alloc: Global,
+    job: &Job,
+    owners: &[u32],
+    fragment: u32,
+) -> Result<Vec<u32>, NoMemory>
     requires { owners.now ≡ owners_of job.now }
     ensures { IfOk result (λ owned. owned.items ≡ owned_of job.now fragment) }
 {
@@ -39,7 +44,11 @@ fn file_row(row: u32, readings: &[Reading], filed: &mut Vec<Filed>) -> Result<()
 }
 
 /// What these vertices read, filed under their places in this list.
-pub fn filed_reads(alloc: Global, vertices: &[u32], reads: &Rows<Reading>) -> Result<Vec<Filed>, NoMemory>
+pub fn filed_reads(
+    alloc: Global,
+    vertices: &[u32],
+    reads: &Rows<Reading>,
+) -> Result<Vec<Filed>, NoMemory>
     requires few { length vertices.now < 2 ^ 32 }
     requires inside { All (λ v. v < length reads.now) vertices.now }
     ensures { IfOk result (λ filed. filed.items ≡ filed_rows vertices.now reads.now (length vertices.now)) }
@@ -66,7 +75,13 @@ pub fn marks_of(alloc: Global, filed: &[Filed], count: u32) -> Result<Vec<bool>,
 }
 
 /// The marked vertices that a fragment does not own, by rising index: its mirrors.
-pub fn mirrors_by(alloc: Global, job: &Job, owners: &[u32], fragment: u32, marks: &[bool]) -> Result<Vec<u32>, NoMemory>
+pub fn mirrors_by(
+    alloc: Global,
+    job: &Job,
+    owners: &[u32],
+    fragment: u32,
+    marks: &[bool],
+) -> Result<Vec<u32>, NoMemory>
     requires owners { owners.now ≡ owners_of job.now }
     requires len { length marks.now ≡ count_of job.now.graph }
     requires marks { (v : ℕ) → v < count_of job.now.graph → slice_index_or marks.now v false ≡ is_read_in job.now fragment v }

@@ -4,8 +4,8 @@ ghost use Rattle.fragment_cut.specs.Filing.{filed_by, reads_table};
 
 use crate::filed::table_of;
 use crate::filing::Filed;
-use graph_core::{Edge, Job, Query, Reading, Rows};
 use grape_port::NoMemory;
+use graph_core::{Edge, Job, Query, Reading, Rows};
 use std::alloc::Global;
 
 /// Adds what is read along an edge, filed under the vertices that read it. A loop is read once.

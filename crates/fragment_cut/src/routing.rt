@@ -7,8 +7,8 @@ ghost use Rattle.fragment_cut.specs.Routing.{filed_mirrors, route_of, routes_tab
 use crate::filed::table_of;
 use crate::filing::Filed;
 use crate::half::Half;
-use graph_core::{Job, Reading, Route, Rows};
 use grape_port::NoMemory;
+use graph_core::{Job, Reading, Route, Rows};
 use std::alloc::Global;
 
 /// Adds the mirrors of a fragment, each filed under its vertex.
@@ -65,7 +65,11 @@ fn read_routes(readings: &[Reading], row: &mut Vec<Route>) -> Result<(), NoMemor
 }
 
 /// The routes of these vertices.
-pub fn routes_by(alloc: Global, vertices: &[u32], table: &Rows<Reading>) -> Result<Rows<Route>, NoMemory>
+pub fn routes_by(
+    alloc: Global,
+    vertices: &[u32],
+    table: &Rows<Reading>,
+) -> Result<Rows<Route>, NoMemory>
     requires { All (λ v. v < length table.now) vertices.now }
     ensures { IfOk result (λ routes. routes ≡ map (routes_in table.now) vertices.now) }
 {

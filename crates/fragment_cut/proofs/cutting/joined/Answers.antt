@@ -24,7 +24,7 @@ with_routes-requires c =
     let turn = YieldsList-turn road c.loop-half.yielded c.loop-half.half-iterator c.loop-half.yielded_by (Some c.in-Some.half) c.next.new.self c.in-Some.half refl c.in-Some.ensures.steps in
     let half = half_turn job c.args.halves.items c.loop-half.yielded c.loop-half.number c.in-Some.half c.requires.halves c.loop-half.invariant.count turn in
     whole_is_one job c.loop-half.number (whole c.in-Some.half c.loop-half.number c.in_ok-own.own)
-        (whole_is job c.loop-half.number c.in-Some.half c.args.routes.now c.owned.result.now c.in_ok-own.own half.0 c.requires.routes c.owned.ensures c.in_ok-own.ensures)
+    (whole_is job c.loop-half.number c.in-Some.half c.args.routes.now c.owned.result.now c.in_ok-own.own half.0 c.requires.routes c.owned.ensures c.in_ok-own.ensures)
 
 pub overflow_add-number : goal.overflow_add-number
 overflow_add-number c =

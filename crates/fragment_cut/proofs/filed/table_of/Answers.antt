@@ -17,4 +17,4 @@ rows_of-requires-clause-in_range c =
 pub returns : goal.returns
 returns c =
     subst (λ (t : List (List Reading)). IfOk c.rows_of.result (λ made. made ≡ t))
-        (table_is c.args.filed.now c.sort_unstable.new.self c.args.rows c.sort_unstable.ensures.permutation c.sort_unstable.ensures.sorted) c.rows_of.ensures
+    (table_is c.args.filed.now c.sort_unstable.new.self c.args.rows c.sort_unstable.ensures.permutation c.sort_unstable.ensures.sorted) c.rows_of.ensures

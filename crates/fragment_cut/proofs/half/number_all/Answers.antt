@@ -20,4 +20,4 @@ number_places-requires-2-clause-once c = once_right c.args.owned.now c.args.mirr
 pub returns : goal.returns
 returns c =
     numbered_all c.args.owned.now c.args.mirrors.now c.args.places.now c.number_places.new.places c.number_places-2.new.places c.requires.once
-        c.number_places.ensures.numbered c.number_places-2.ensures.numbered c.number_places-2.ensures.others
+    c.number_places.ensures.numbered c.number_places-2.ensures.numbered c.number_places-2.ensures.others

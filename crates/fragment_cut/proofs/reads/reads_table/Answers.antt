@@ -14,4 +14,4 @@ pub returns : goal.returns
 returns c =
     let job = c.args.job.now in
     subst (λ (t : List (List Reading)). IfOk c.table_of.result (λ made. made ≡ t))
-        (reads_made job.graph job.query c.deref_mut.result.now c.count.result (c.deref_mut.ensures.value ∙ c.in_ok-filed.ensures ∙ ap (flat_map (filed_by job.query)) c.edges.ensures.edges) c.count.ensures.count) c.table_of.ensures
+    (reads_made job.graph job.query c.deref_mut.result.now c.count.result (c.deref_mut.ensures.value ∙ c.in_ok-filed.ensures ∙ ap (flat_map (filed_by job.query)) c.edges.ensures.edges) c.count.ensures.count) c.table_of.ensures

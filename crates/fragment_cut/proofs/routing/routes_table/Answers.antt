@@ -10,4 +10,4 @@ table_of-requires c = filed_halves_inside c.args.job.now c.deref_mut.result.now 
 pub returns : goal.returns
 returns c =
     subst (λ (t : List (List Reading)). IfOk c.table_of.result (λ made. made ≡ t))
-        (routes_made c.args.job.now c.deref_mut.result.now c.count.result (c.deref_mut.ensures.value ∙ c.in_ok-filed.ensures) c.count.ensures.count) c.table_of.ensures
+    (routes_made c.args.job.now c.deref_mut.result.now c.count.result (c.deref_mut.ensures.value ∙ c.in_ok-filed.ensures) c.count.ensures.count) c.table_of.ensures
