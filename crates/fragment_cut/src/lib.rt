@@ -12,3 +12,6 @@ mod routing;
 
 pub use cutting::fragment;
 pub use owner::owner_of;
+
+#[cfg(test)]
+mod tests;
