@@ -1,0 +1,5 @@
+pub mod Filing
+pub mod Owners
+pub mod Halves
+pub mod Routing
+pub mod Cut

@@ -1,0 +1,146 @@
+ghost use Rattle.std.specs.Prelude.{◌≡◌, ◌<◌, ◌≤◌, ◌^◌, ◌+◌, ◌++◌, ℕ, map, length, IfOk, All, slice_index};
+ghost use Rattle.graph_core.specs.Graphs.{count_of, IsJob};
+ghost use Rattle.graph_core.specs.Parts.{IsFragment};
+ghost use Rattle.graph_core.specs.Fragments.{owned_of, mirrors_of, places_of, StandsAt};
+ghost use Rattle.fragment_cut.specs.Filing.{reads_table, filed_rows, with_place};
+ghost use Rattle.fragment_cut.specs.Owners.{owners_of, StandOnce};
+
+use crate::filed::table_of;
+use crate::filing::Filed;
+use crate::piece::{
+    filed_reads, marks_of, mirrors_by, number_places, owned_by, place_reads, turned_of,
+};
+use grape_port::NoMemory;
+use graph_core::{Fragment, FragmentParts, Job, Reading, Route, Rows};
+use std::alloc::Global;
+use std::marker::Model;
+
+/// A fragment without its routes.
+#[derive(Drop)]
+pub struct Half {
+    owned: Vec<u32>,
+    mirrors: Vec<u32>,
+    readings: Rows<Reading>,
+    readers: Rows<Reading>,
+}
+
+impl Model for Half {
+    ghost use Rattle.fragment_cut.specs.Halves.{HalfLists};
+
+    ghost Value = { HalfLists };
+
+    ghost view = { λ h. record { owned = h.owned.items; mirrors = h.mirrors.items; readings = h.readings; readers = h.readers } };
+}
+
+/// The mirrors of a fragment whose reads are filed so, by rising index.
+fn mirrors_read(
+    alloc: Global,
+    job: &Job,
+    owners: &[u32],
+    fragment: u32,
+    filed: &[Filed],
+) -> Result<Vec<u32>, NoMemory>
+    requires job { IsJob job.now }
+    requires fragment { fragment < job.now.settings.fragments }
+    requires owners { owners.now ≡ owners_of job.now }
+    requires filed { filed.now ≡ filed_rows (owned_of job.now fragment) (reads_table job.now.graph job.now.query) (length (owned_of job.now fragment)) }
+    ensures { IfOk result (λ mirrors. mirrors.items ≡ mirrors_of job.now fragment) }
+{
+    let marks = marks_of(alloc, filed, job.graph.count())?;
+    mirrors_by(alloc, job, owners, fragment, &marks)
+}
+
+/// Numbers the owned vertices from 0 on, and then the mirrors.
+fn number_all(owned: &[u32], mirrors: &[u32], places: &mut [u32])
+    requires few { length owned.now + length mirrors.now < 2 ^ 32 }
+    requires inside { All (λ v. v < length places.old) (owned.now ++ mirrors.now) }
+    requires once { StandOnce (owned.now ++ mirrors.now) }
+    ensures { (p v : ℕ) → StandsAt (owned.now ++ mirrors.now) p v → slice_index places.new v ≡ p }
+{
+    number_places(owned, 0, places);
+    number_places(mirrors, owned.len() as u32, places);
+}
+
+/// What a fragment reads, filed under the owned places, with places for vertices.
+fn placed_reads(owned: &[u32], mirrors: &[u32], places: &mut [u32], filed: &mut [Filed])
+    requires few { length owned.now + length mirrors.now < 2 ^ 32 }
+    requires inside { All (λ v. v < length places.old) (owned.now ++ mirrors.now) }
+    requires once { StandOnce (owned.now ++ mirrors.now) }
+    requires filed { All (λ entry. entry.place < length places.old) filed.old }
+    ensures placed { filed.new ≡ map (with_place places.new) filed.old }
+    ensures places { (p v : ℕ) → StandsAt (owned.now ++ mirrors.now) p v → slice_index places.new v ≡ p }
+{
+    number_all(owned, mirrors, places);
+    place_reads(places, filed);
+}
+
+impl Half {
+    ghost use Rattle.fragment_cut.specs.Halves.{half_of, whole};
+
+    /// The fragment with this number, but for its routes. `owners` and `reads` are those of the whole
+    /// graph, and `places` is room for a place a vertex.
+    pub fn build(
+        alloc: Global,
+        job: &Job,
+        owners: &[u32],
+        reads: &Rows<Reading>,
+        places: &mut [u32],
+        fragment: u32,
+    ) -> Result<Half, NoMemory>
+        requires job { IsJob job.now }
+        requires fragment { fragment < job.now.settings.fragments }
+        requires owners { owners.now ≡ owners_of job.now }
+        requires reads { reads.now ≡ reads_table job.now.graph job.now.query }
+        requires places { length places.old ≡ count_of job.now.graph }
+        ensures { IfOk result (λ half. half ≡ half_of job.now fragment) }
+    {
+        let owned = owned_by(alloc, job, owners, fragment)?;
+        let mut filed = filed_reads(alloc, &owned, reads)?;
+        let mirrors = mirrors_read(alloc, job, owners, fragment, &filed)?;
+        placed_reads(&owned, &mirrors, places, &mut filed);
+        let mut turned = turned_of(alloc, &filed)?;
+        let readings = table_of(alloc, &mut filed, owned.len() as u32)?;
+        let readers = table_of(alloc, &mut turned, (owned.len() + mirrors.len()) as u32)?;
+        Ok(Half {
+            owned,
+            mirrors,
+            readings,
+            readers,
+        })
+    }
+
+    /// The indexes of the vertices that the fragment owns, by place.
+    pub fn owned(&self) -> &[u32]
+        ensures { result.now ≡ self.now.owned }
+    {
+        &self.owned
+    }
+
+    /// The indexes of its mirrors, by mirror number.
+    pub fn mirrors(&self) -> &[u32]
+        ensures { result.now ≡ self.now.mirrors }
+    {
+        &self.mirrors
+    }
+
+    /// The fragment with this number and these routes.
+    pub fn with_routes(self, number: u32, routes: Rows<Route>) -> Fragment
+        requires { IsFragment (whole self number routes) }
+        ensures { result ≡ whole self number routes }
+    {
+        let Half {
+            owned,
+            mirrors,
+            readings,
+            readers,
+        } = self;
+        Fragment::from_parts(FragmentParts {
+            number,
+            owned,
+            mirrors,
+            readings,
+            readers,
+            routes,
+        })
+    }
+}

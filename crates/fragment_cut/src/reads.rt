@@ -1,0 +1,57 @@
+ghost use Rattle.std.specs.Prelude.{◌≡◌, ◌++◌, flat_map, OnOk, IfOk};
+ghost use Rattle.graph_core.specs.Graphs.{IsGraph};
+ghost use Rattle.fragment_cut.specs.Filing.{filed_by, reads_table};
+
+use crate::filed::table_of;
+use crate::filing::Filed;
+use grape_port::NoMemory;
+use graph_core::{Edge, Job, Query, Reading, Rows};
+use std::alloc::Global;
+
+/// Adds what is read along an edge, filed under the vertices that read it. A loop is read once.
+fn file_edge(query: &Query, edge: Edge, filed: &mut Vec<Filed>) -> Result<(), NoMemory>
+    ensures { OnOk result (filed.new.items ≡ filed.old.items ++ filed_by query.now edge) }
+{
+    let by_source = Filed {
+        row: edge.from,
+        place: edge.to,
+        weight: edge.weight,
+    };
+    let by_target = Filed {
+        row: edge.to,
+        place: edge.from,
+        weight: edge.weight,
+    };
+    match query {
+        Query::Dist(_) => filed.push(by_target)?,
+        Query::Reach(_) => filed.push(by_target)?,
+        Query::Sim(_) => filed.push(by_source)?,
+        Query::Label => {
+            filed.push(by_source)?;
+            if edge.from != edge.to {
+                filed.push(by_target)?;
+            }
+        }
+    }
+    Ok(())
+}
+
+/// What is read along the edges, filed under the vertices that read it.
+fn filed_edges(alloc: Global, query: &Query, edges: &[Edge]) -> Result<Vec<Filed>, NoMemory>
+    ensures { IfOk result (λ filed. filed.items ≡ flat_map (filed_by query.now) edges.now) }
+{
+    let mut filed = Vec::with_capacity(alloc, edges.len())?;
+    for edge in edges {
+        file_edge(query, *edge, &mut filed)?;
+    }
+    Ok(filed)
+}
+
+/// What each vertex reads, with vertex indexes for places, in order of vertex and weight.
+pub fn reads_table(alloc: Global, job: &Job) -> Result<Rows<Reading>, NoMemory>
+    requires { IsGraph job.now.graph }
+    ensures { IfOk result (λ reads. reads ≡ reads_table job.now.graph job.now.query) }
+{
+    let mut filed = filed_edges(alloc, &job.query, job.graph.edges())?;
+    table_of(alloc, &mut filed, job.graph.count())
+}
