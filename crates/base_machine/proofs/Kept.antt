@@ -10,7 +10,7 @@ use Rattle.graph_core.specs.declared.fragment.Route.{Route}
 use Rattle.graph_core.specs.Equations.{Assignment, IsGreatest}
 use Rattle.graph_core.specs.Fragments.{Piece, piece_at, places, StandsAt, IsOwnedAt}
 use Rattle.graph_core.proofs.Cutting.{stands_left, stands_right}
-use Rattle.base_machine.specs.Machine.{System, BaseState, BaseTake, BaseGive, Standing, Fresh, Running, Rest, Worker, Post, worker_at, no_worker, is_fresh, rests, hand_of, pending_posts, values_for, values_given, sent_to, after_receiving, after_giving, after_taking, each_worker_from, after_give, base_after, is_allowed, takes_a_batch}
+use Rattle.base_machine.specs.Machine.{System, BaseState, BaseTake, BaseGive, Standing, Fresh, Running, Rest, Worker, Post, worker_at, no_worker, is_fresh, rests, hand_of, pending_posts, values_for, values_given, sent_to, after_receiving, after_giving, after_taking, each_worker_from, base_after_give, base_after, is_allowed, takes_a_batch}
 use Rattle.base_machine.specs.Fitness.{IsFit, IsFitWorker, IsBetween, known_at}
 use Rattle.base_machine.specs.Theorems.{IsSound, FitIsKept}
 use Rattle.base_machine.proofs.Meets.{meet_all-lower, meet_all-greatest}
@@ -182,7 +182,7 @@ module _ (sys : System) (g : Assignment) (sound : IsSound sys) (greatest : IsGre
   giver = worker_at ws i
 
   abbrev given : BaseState
-  given = after_give sys i from giver ws
+  given = base_after_give sys i from giver ws
 
   abbrev changed : ℕ → Worker → Worker
   changed k w = if k == i then after_giving sys from w else after_receiving i (giver.gives + 1) (sent_to sys from giver k) w

@@ -14,7 +14,7 @@ use Rattle.token_cut.specs.declared.phase.Phase.{Phase}
 use Rattle.token_cut.specs.declared.phase.Phase.TheVariants.{Fresh as FreshPhase, Rest as RestPhase}
 use Rattle.token_cut.specs.Parts.{PartValues, SnapshotParts}
 
--- What a run is of: the equations that a program has for the job, the job's fragments and its settings.
+-- What a run is of: the equations that a program has for a job, the job's fragments and its settings.
 pub record System : Type 0 where
   pub equations : Equations
   pub pieces : List Piece
@@ -28,7 +28,7 @@ system_of job = system_with (equations_of job) job
 
 -- ---- states
 
--- a value for a mirror
+-- a value for a mirror, on its way to a worker or waiting there
 pub record Post : Type 0 where
   pub mirror : ℕ
   pub value : ℕ
@@ -87,9 +87,11 @@ batch_waits w = nat_lt 0 (batches_waiting w)
 
 -- ---- mail
 
+-- all posts of these batches
 abbrev pub posts_in : List Batch → List Post
 posts_in = flat_map (λ b. b.posts)
 
+-- the values posted to mirror m
 abbrev pub values_for : ℕ → List Post → List ℕ
 values_for m posts = map (λ p. p.value) (filter (λ p. p.mirror == m) posts)
 
@@ -118,11 +120,12 @@ posts_to k (a ∷ old) (b ∷ new) (r ∷ routes) =
 
 -- ---- steps
 
--- Worker i takes the batch of the start and those that upto names, or worker i gives.
+-- A worker takes the batch of the start and, of each sender j, the batches numbered at most the j-th number of upto; or a worker gives.
 pub data BaseEvent : Type 0 where
   BaseTake : (worker : ℕ) (upto : List ℕ) → BaseEvent
   BaseGive : (worker : ℕ) → BaseEvent
 
+-- a Take up to these numbers finds a batch
 abbrev pub takes_a_batch : List ℕ → Worker → Bool
 takes_a_batch upto w = not (is_empty w.start_posts && is_empty (taken_batches upto w.mail))
 
@@ -132,6 +135,7 @@ is_allowed ws (BaseTake i upto) =
     nat_lt i (length ws) && length upto == length ws && (is_fresh (worker_at ws i) || (rests (worker_at ws i) && takes_a_batch upto (worker_at ws i)))
 is_allowed ws (BaseGive i) = nat_lt i (length ws) && is_running (worker_at ws i)
 
+-- worker w after its Take: its hand has for each mirror the meet of what it took
 abbrev pub after_taking : System → Piece → List ℕ → Worker → Worker
 after_taking sys piece upto w =
     record {
@@ -156,6 +160,7 @@ after_receiving j number [] w = w
 after_receiving j number (p ∷ posts) w =
     record w { mail = slice_set w.mail j (slice_index_or w.mail j [] ++ record { number = number; posts = p ∷ posts } ∷ []) }
 
+-- worker w after its Give
 abbrev pub after_giving : System → Piece → Worker → Worker
 after_giving sys piece w =
     record w { standing = Rest; values = values_given sys piece w; gives = w.gives + 1 }
@@ -165,14 +170,14 @@ abbrev pub each_worker_from : ℕ → (ℕ → Worker → Worker) → BaseState 
 each_worker_from n f [] = []
 each_worker_from n f (w ∷ ws) = f n w ∷ each_worker_from (n + 1) f ws
 
--- worker i gives what w has, and every other worker gets its batch
-abbrev pub after_give : System → ℕ → Piece → Worker → BaseState → BaseState
-after_give sys i piece giver ws =
+-- all workers after the Give of worker i, the giver: every other worker gets its batch
+abbrev pub base_after_give : System → ℕ → Piece → Worker → BaseState → BaseState
+base_after_give sys i piece giver ws =
     each_worker_from 0 (λ k w. if k == i then after_giving sys piece w else after_receiving i (giver.gives + 1) (sent_to sys piece giver k) w) ws
 
 abbrev pub base_after : System → BaseState → BaseEvent → BaseState
 base_after sys ws (BaseTake i upto) = slice_set ws i (after_taking sys (piece_at sys.pieces i) upto (worker_at ws i))
-base_after sys ws (BaseGive i) = after_give sys i (piece_at sys.pieces i) (worker_at ws i) ws
+base_after sys ws (BaseGive i) = base_after_give sys i (piece_at sys.pieces i) (worker_at ws i) ws
 
 abbrev pub base_after_all : System → BaseState → List BaseEvent → BaseState
 base_after_all sys ws [] = ws
@@ -180,7 +185,7 @@ base_after_all sys ws (e ∷ events) = base_after_all sys (base_after sys ws e) 
 
 -- ---- snapshots
 
--- the mail of a part as posts, and pending mail as the mail of a part
+-- the mail of a part as posts, where its first value is that of mirror m
 abbrev pub posts_from : ℕ → List ℕ → List Post
 posts_from m [] = []
 posts_from m (x ∷ xs) = if x == NOTHING then posts_from (m + 1) xs else record { mirror = m; value = x } ∷ posts_from (m + 1) xs
@@ -212,7 +217,7 @@ abbrev pub parts_from : System → ℕ → BaseState → List PartValues
 parts_from sys n [] = []
 parts_from sys n (w ∷ ws) = part_of sys (piece_at sys.pieces n) w ∷ parts_from sys (n + 1) ws
 
--- the snapshot of a state in which nobody is running
+-- The snapshot of a state in which nobody runs. Who runs would count as resting.
 abbrev pub snapshot_of : System → BaseState → ℕ → SnapshotParts
 snapshot_of sys ws epoch = record { epoch = epoch; parts = parts_from sys 0 ws }
 

@@ -10,30 +10,31 @@ pub enum StopCause {
     Memory,
 }
 
-/// One step of a run. Workers and lanes count from 0, a worker for each fragment; snapshots have epochs from 1.
+/// One step of a run. Workers and lanes count from 0, and there is a worker for each fragment. Epochs number the
+/// snapshots: one that a run begins has the epoch after the last one's, and no epoch passes 2^62 - 1.
 #[derive(Clone, Copy, Debug, PartialEq, Eq)]
 pub enum Event {
-    /// The worker takes the mail that waits for it, to be evaluated by the lane.
+    /// The worker takes all the mail that waits for it, and the lane is to evaluate it.
     Take { worker: u32, lane: u32 },
-    /// The worker has the values that its evaluation left, and sends on those that became lower.
+    /// The evaluation is done: the worker has its values, and sends on those that became lower.
     Give { worker: u32 },
-    /// The worker will let mail gather for so many more events.
+    /// The worker lets mail gather for so many more events, at most 128.
     Stretch { worker: u32, turns: u32 },
     /// The worker still lets mail gather.
     Hold { worker: u32 },
-    /// The worker has nothing to do.
+    /// The worker rests, and no mail waits for it.
     Flag { worker: u32 },
     /// All workers are asked whether the run may end.
     Ask,
-    /// The worker agrees.
+    /// The worker answers that it may: no mail waits for it, and it took none since it was asked.
     Ack { worker: u32 },
-    /// The worker has had or has something to do.
+    /// The worker answers that it may not.
     Nack { worker: u32 },
     /// A snapshot begins.
     Begin { epoch: u64 },
-    /// The worker's part of the snapshot is recorded.
+    /// The worker's part is recorded in the snapshot.
     Mark { worker: u32 },
-    /// The snapshot is whole.
+    /// All parts are recorded, and the snapshot is whole.
     Seal { epoch: u64 },
     /// The snapshot is on the disk.
     Kept { epoch: u64 },

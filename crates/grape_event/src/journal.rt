@@ -1,4 +1,4 @@
-ghost use Rattle.std.specs.Prelude.{◌≡◌, ◌+◌, ◌≤◌, [], ◌∷◌, ◌++◌, length, reverse, slice_get, OnOk, OnErr};
+ghost use Rattle.std.specs.Prelude.{◌≡◌, ◌+◌, ◌≤◌, [], ◌∷◌, ◌++◌, ◌↔◌, length, reverse, slice_get, IsNone, IsOk, OnOk, OnErr};
 ghost use Rattle.grape_event.specs.Journals.{new_journal, has_ended};
 
 use crate::event::Event;
@@ -33,11 +33,13 @@ impl Journal {
         }
     }
 
-    /// Makes room for at least `n` more events. Neither answer takes room away, and after `NoMemory` all is as before.
+    /// Makes room for at least `n` more events. Takes no memory where there is that room already, and after `NoMemory`
+    /// all is as before.
     pub fn reserve(&mut self, n: u64) -> Result<(), NoMemory>
         ensures events { self.new.events ≡ self.old.events }
         ensures room { OnOk result (n ≤ self.new.spare) }
         ensures kept { self.old.spare ≤ self.new.spare }
+        ensures in_room { n ≤ self.old.spare → IsOk result }
         ensures no_memory { OnErr result (self.new ≡ self.old) }
     {
         self.events.reserve(n as usize)?;
@@ -69,7 +71,8 @@ impl Journal {
 
     /// The event at a place, which counts from 0. None comes exactly from the length on.
     pub fn get(&self, place: u64) -> Option<Event>
-        ensures { result ≡ slice_get self.now.events place }
+        ensures event { result ≡ slice_get self.now.events place }
+        ensures none { IsNone result ↔ (length self.now.events ≤ place) }
     {
         self.events.get(place as usize).copied()
     }

@@ -1,11 +1,10 @@
 -- Journals of a job from its beginning.
-use Rattle.std.specs.Prelude.{Bool, List, Option}
+use Rattle.std.specs.Prelude.{Bool, List}
 use Rattle.graph_core.specs.declared.job.Job.{Job}
 use Rattle.grape_event.specs.declared.event.Event.{Event}
 use Rattle.token_cut.specs.Parts.{SnapshotParts}
 use Rattle.base_machine.specs.Machine.{system_of, fresh_snapshot}
-use Rattle.legal_journal.specs.Legal.{State, start_state, are_admitted, IsLegal}
-use Rattle.legal_journal.specs.Theorems.{state_at_end}
+use Rattle.legal_journal.specs.Legal.{State, start_state, are_admitted, IsLegal, state_at_end}
 
 -- where everybody is Fresh
 abbrev pub beginning : Job → SnapshotParts

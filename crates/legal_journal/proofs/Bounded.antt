@@ -8,7 +8,8 @@ use Rattle.base_machine.specs.Machine.{BaseEvent}
 use Rattle.base_machine.specs.Runs.{takes_in}
 use Rattle.base_machine.proofs.Bounded.{runs_are_bounded}
 use Rattle.legal_journal.specs.BaseEvents.{base_of, base_event, base_events_where}
-use Rattle.legal_journal.specs.Theorems.{TakesAreBounded, state_at_end}
+use Rattle.legal_journal.specs.Legal.{state_at_end}
+use Rattle.legal_journal.specs.Theorems.{TakesAreBounded}
 use Rattle.legal_journal.proofs.Journals.{journal_runs}
 
 event_takes : (n : ℕ) (past : List Event) (e : Event) (rest : List BaseEvent) → takes_in (base_event n past e ++ rest) ≡ cond (is_take e) 1 0 + takes_in rest

@@ -13,9 +13,9 @@ use Rattle.base_machine.specs.Machine.{System, BaseState, Worker, Fresh, Running
 use Rattle.base_machine.proofs.Posts.{all_append, all_left, all_right}
 use Rattle.legal_journal.specs.Past.{has_ended, flag_is_up, was_asked, nack_since_ask, has_answered, took_since_ask, all_have_answered, last_epoch, recording_is_open, is_marked, was_kept, was_sealed, all_kept_in, all_begun_are_kept}
 use Rattle.legal_journal.specs.Delays.{is_busy, is_within, is_fresh_enough, delay_is_over}
-use Rattle.legal_journal.specs.Legal.{State, start_state, state_after, is_admitted, row_admits, worker_count, is_worker, has_work_out, snapshot_is_due, is_unmarked, rests_without_mail, rests_with_mail, is_stretched, stretch_from, may_stretch, IsLegal}
+use Rattle.legal_journal.specs.Legal.{State, start_state, state_after, is_admitted, row_admits, worker_count, is_worker, has_work_out, snapshot_is_due, is_unmarked, rests_without_mail, rests_with_mail, is_stretched, stretch_from, may_stretch, IsLegal, state_at_end}
 use Rattle.legal_journal.specs.Choices.{first_admitted, first_in_turn, in_turn, is_of_lane, lane_events, is_duty, duties, sealed_epochs, run_events}
-use Rattle.legal_journal.specs.Theorems.{state_at_end, LaneChoicesAreExact, DutiesAreExact, OneLaneGoesOn, RunsGoOn}
+use Rattle.legal_journal.specs.Theorems.{LaneChoicesAreExact, DutiesAreExact, OneLaneGoesOn, RunsGoOn}
 use Rattle.legal_journal.proofs.Walks.{kept_along, past_after, all_or_not, all_from_each}
 use Rattle.legal_journal.proofs.Probes.{both, count_after}
 

@@ -13,9 +13,9 @@ use Rattle.base_machine.specs.Machine.{System, BaseState, BaseTake, BaseGive, Wo
 use Rattle.base_machine.specs.Fitness.{is_quiet}
 use Rattle.base_machine.proofs.Swapping.{after-length, after-at}
 use Rattle.legal_journal.specs.Past.{flag_is_up, is_ask, is_ack_of, was_asked, since_ask, has_answered, took_since_ask, gives_of_each}
-use Rattle.legal_journal.specs.Legal.{State, start_state, state_after, is_admitted, row_admits, workers_after, worker_count, rests_without_mail, rests_with_mail, is_worker, may_answer, IsLegal}
+use Rattle.legal_journal.specs.Legal.{State, start_state, state_after, is_admitted, row_admits, workers_after, worker_count, rests_without_mail, rests_with_mail, is_worker, may_answer, IsLegal, state_at_end}
 use Rattle.legal_journal.specs.Delays.{delay_is_over}
-use Rattle.legal_journal.specs.Theorems.{EndIsQuiet, state_at_end}
+use Rattle.legal_journal.specs.Theorems.{EndIsQuiet}
 use Rattle.legal_journal.proofs.Walks.{kept_along, admitted_parts, past_after, all_below}
 
 -- ---- words since the last Ask

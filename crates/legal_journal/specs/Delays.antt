@@ -14,7 +14,7 @@ use Rattle.legal_journal.specs.Past.{stretch_of}
 abbrev pub window : List ℕ → List ℕ
 window arrivals = take 8 arrivals
 
--- the first of a list newest first
+-- the oldest of a and those before it, newest first
 abbrev pub oldest_of : ℕ → List ℕ → ℕ
 oldest_of a [] = a
 oldest_of a (x ∷ xs) = oldest_of x xs
@@ -35,7 +35,7 @@ abbrev pub has_enough : Policy → ℕ → Bool
 has_enough (Aap c l) batches = nat_le l batches
 has_enough _ batches = false
 
--- every event is one tick
+-- The turns of a Stretch are over, where the clock is the journal's length: every event is one tick.
 abbrev pub stretch_is_over : Option (ℕ × ℕ) → ℕ → Bool
 stretch_is_over None clock = false
 stretch_is_over (Some s) clock = nat_le (s.1 + 1 + s.0) clock

@@ -36,6 +36,7 @@ start_state s =
 abbrev pub worker_count : State → ℕ
 worker_count s = length s.workers
 
+-- stands for a part past the last
 abbrev pub no_part : PartValues
 no_part = record { phase = RestPhase; values = []; mail = [] }
 
@@ -61,6 +62,7 @@ tagged_batch_from s i j = list_any (λ b. Past.is_tagged j b.number s.past) (sli
 abbrev pub tagged_batch_waits : State → ℕ → Bool
 tagged_batch_waits s i = list_any (tagged_batch_from s i) (numbers_below (worker_count s))
 
+-- a recording is open, and i is not marked in it
 abbrev pub is_unmarked : State → ℕ → Bool
 is_unmarked s i = Past.recording_is_open s.past && not (Past.is_marked i s.past)
 
@@ -82,13 +84,14 @@ may_take sys s i k =
 abbrev pub may_give : State → ℕ → Bool
 may_give s i = is_running (worker_at s.workers i)
 
--- the turns are those of the policy and up to 64 more
+-- the least turns of a Stretch of worker i
 abbrev pub stretch_from : System → State → ℕ → ℕ
 stretch_from sys s i = stretch_turns sys.settings.policy (batches_waiting (worker_at s.workers i)) (slice_index_or s.arrivals i [])
 
 abbrev pub is_stretched : State → ℕ → Bool
 is_stretched s i = is_some (Past.stretch_of i s.past)
 
+-- one Stretch between two Takes, of the least turns and up to 64 more
 abbrev pub may_stretch : System → State → ℕ → ℕ → Bool
 may_stretch sys s i turns =
     rests_with_mail s i && not (is_stretched s i) && nat_le (stretch_from sys s i) turns && nat_le turns (stretch_from sys s i + 64)
@@ -193,6 +196,7 @@ mail_with o m posts (x ∷ xs) = meet_all o x (values_for m posts) ∷ mail_with
 abbrev pub is_late : State → ℕ → ℕ → Bool
 is_late s i k = Past.recording_is_open s.past && Past.is_marked k s.past && not (Past.is_marked i s.past)
 
+-- what is recorded of worker k after the Give of worker i
 abbrev pub recorded_with_late : System → State → ℕ → ℕ → PartValues
 recorded_with_late sys s i k =
     let part = slice_index_or s.recorded k no_part in
@@ -233,6 +237,10 @@ state_after sys s e =
 abbrev pub state_after_all : System → State → List Event → State
 state_after_all sys s [] = s
 state_after_all sys s (e ∷ journal) = state_after_all sys (state_after sys s e) journal
+
+-- the state after a journal
+abbrev pub state_at_end : System → SnapshotParts → List Event → State
+state_at_end sys start journal = state_after_all sys (start_state start) journal
 
 -- each event is admitted after those before it
 abbrev pub are_admitted : System → State → List Event → Bool

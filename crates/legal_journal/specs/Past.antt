@@ -13,7 +13,7 @@ pub use Rattle.grape_event.specs.Journals.{has_ended}
 abbrev pub gives_of : ℕ → List Event → ℕ
 gives_of i past = count_by (is_give_of i) past
 
--- the same for each of n workers
+-- the same for each worker of a list
 abbrev pub gives_of_each : List ℕ → List Event → List ℕ
 gives_of_each [] past = []
 gives_of_each (i ∷ is) past = gives_of i past ∷ gives_of_each is past
@@ -69,11 +69,11 @@ took_since_ask i past = list_any (is_take_of i) (since_ask past)
 abbrev pub nack_since_ask : List Event → Bool
 nack_since_ask past = list_any is_nack (since_ask past)
 
--- each of n workers has answered Ack since the last Ask
+-- each of n workers has answered with Ack since the last Ask
 abbrev pub all_have_answered : ℕ → List Event → Bool
 all_have_answered n past = was_asked past && list_all (λ i. has_answered i past) (numbers_below n)
 
--- a probe is open from an Ask until a Nack or until all have answered Ack
+-- a probe is open from an Ask until a Nack, or until all have answered with Ack
 abbrev pub probe_is_open : ℕ → List Event → Bool
 probe_is_open n past = was_asked past && not (nack_since_ask past) && not (all_have_answered n past)
 

@@ -12,15 +12,11 @@ use Rattle.base_machine.specs.Bounds.{bound_of}
 use Rattle.base_machine.specs.Theorems.{IsSound}
 use Rattle.legal_journal.specs.Past.{has_ended, took_since_ask, was_sealed, was_kept}
 use Rattle.legal_journal.specs.BaseEvents.{base_of}
-use Rattle.legal_journal.specs.Legal.{State, start_state, state_after, state_after_all, is_admitted, IsLegal}
+use Rattle.legal_journal.specs.Legal.{State, state_after, state_at_end, is_admitted, IsLegal}
 use Rattle.legal_journal.specs.Choices.{is_of_lane, next_choice, is_duty, duty_choice, run_choice}
 use Rattle.legal_journal.specs.Cuts.{cut_of, after_cut, sealed_snapshot}
 
--- the state after a journal
-abbrev pub state_at_end : System → SnapshotParts → List Event → State
-state_at_end sys start journal = state_after_all sys (start_state start) journal
-
--- the Takes and Gives of a legal journal are a run to its state
+-- The Takes and Gives of a legal journal are a run to its state.
 abbrev pub JournalRuns : Type 0
 JournalRuns =
     (sys : System) (start : SnapshotParts) (journal : List Event) → IsLegal sys start journal →
