@@ -1,3 +1,4 @@
 pub mod DistJobs
 pub mod Lowering
 pub mod Laws
+pub mod Worked

@@ -20,15 +20,15 @@ pub fn list_owned(local: &mut Local, owned: u32)
     }
 }
 
-/// Lowers an owned place to a value and puts it on the worklist, where the value is less than its own.
-fn lower(local: &mut Local, place: u32, value: u64)
-    requires place { place < length local.old.values }
-    requires owned { place < length local.old.before }
-    ensures { local.new ≡ lowered_to local.old place value }
+/// Lowers the value of an owned place and puts it on the worklist, where the new value is less than its own.
+fn lower(local: &mut Local, reader: u32, value: u64)
+    requires place { reader < length local.old.values }
+    requires owned { reader < length local.old.before }
+    ensures { local.new ≡ lowered_to local.old reader value }
 {
-    if value < local.values()[place as usize] {
-        local.set(place, value);
-        local.enqueue(place);
+    if value < local.values()[reader as usize] {
+        local.set(reader, value);
+        local.enqueue(reader);
     }
 }
 

@@ -1,0 +1,65 @@
+-- The second fragment of the worked row is ready to be evaluated.
+use Rattle.std.proofs.Common.{◌≡◌, ℕ, ◌+◌, ◌<◌, ◌≤◌, ◌^◌, List, [], ◌∷◌, ◌++◌, length, refl, sym, ◌∙◌, ap, subst, arith}
+use Rattle.std.proofs.lemmas.List.Elements.{All-from_recursion}
+use Rattle.graph_core.specs.declared.edge.Edge.{Edge}
+use Rattle.graph_core.specs.declared.job.Job.{Job}
+use Rattle.graph_core.specs.declared.TheConstants.{FAR}
+use Rattle.graph_core.specs.Graphs.{IsJob}
+use Rattle.graph_core.specs.Parts.{FragmentLists}
+use Rattle.graph_core.specs.Equations.{Equations}
+use Rattle.graph_core.specs.Queries.{equations_of}
+use Rattle.graph_core.specs.Fragments.{fragment_of}
+use Rattle.message_buffer.specs.HandValues.{HandValues}
+use Rattle.pie_core.specs.Locals.{LocalValues}
+use Rattle.pie_core.specs.LocalCalls.{new_local, loaded}
+use Rattle.pie_core.specs.Solutions.{IsReadyFor, IsReadyAgain, IsLocalSolution, starts_of}
+use Rattle.pie_core.proofs.Lists.{AllBelow-trans}
+use Rattle.pie_dist.specs.DistJobs.{IsDistJob}
+use Rattle.pie_dist.specs.Worked.{two_ranges}
+
+pub row_is_for : IsDistJob two_ranges
+row_is_for =
+    let words : ℕ × ℕ → Type 0 = λ vertex. (vertex.0 < 2 ^ 32) × (vertex.1 < 2 ^ 32) in
+    let ends : Edge → Type 0 = λ e. (e.from < 3) × (e.to < 3) in
+    let weight : Edge → Type 0 = λ e. e.weight < 2 ^ 32 in (
+      record {
+        graph = record {
+          rising = (omega arith, (omega arith, tt));
+          words = All-from_recursion words two_ranges.graph.vertices ((omega arith, omega arith), ((omega arith, omega arith), ((omega arith, omega arith), tt)));
+          ends = All-from_recursion ends two_ranges.graph.edges ((omega arith, omega arith), ((omega arith, omega arith), tt));
+          weights = All-from_recursion weight two_ranges.graph.edges (omega arith, (omega arith, tt));
+          sorted = refl;
+          few_vertices = omega arith;
+          few_edges = omega arith;
+        };
+        query = omega arith;
+        settings = record { fragments = (omega arith, omega arith); lanes = (omega arith, omega arith); policy = tt; snapshot = omega arith };
+      },
+      tt,
+    )
+
+far_ready : IsReadyFor (equations_of two_ranges) two_ranges (fragment_of two_ranges 1) (loaded (new_local 1 1 0) (FAR ∷ FAR ∷ [])) 0
+far_ready = record { number = omega arith; is_part = refl; below_start = (omega arith, (omega arith, tt)); owned = refl; room = refl }
+
+pub second_ready : (part : FragmentLists) (made local : LocalValues) (counters : ℕ) → part ≡ fragment_of two_ranges 1 → counters ≡ 0 → made ≡ new_local (length part.owned) (length part.mirrors) counters → local ≡ loaded made (FAR ∷ FAR ∷ [])
+    → IsReadyFor (equations_of two_ranges) two_ranges part local 0
+second_ready part made local counters is_part none is_made is_local =
+    let made_is : made ≡ new_local 1 1 0 = is_made ∙ ap (λ (p : FragmentLists). new_local (length p.owned) (length p.mirrors) counters) is_part ∙ ap (λ n. new_local 1 1 n) none in
+    let local_is : local ≡ loaded (new_local 1 1 0) (FAR ∷ FAR ∷ []) = is_local ∙ ap (λ m. loaded m (FAR ∷ FAR ∷ [])) made_is in
+    subst (λ (p : FragmentLists). IsReadyFor (equations_of two_ranges) two_ranges p local 0) (sym is_part)
+    (subst (λ (l : LocalValues). IsReadyFor (equations_of two_ranges) two_ranges (fragment_of two_ranges 1) l 0) (sym local_is) far_ready)
+
+-- what was evaluated can be evaluated again
+pub ready-again : (e : Equations) (job : Job) (part : FragmentLists) (old new : LocalValues) (counters : ℕ) (hand : HandValues) → IsReadyFor e job part old counters → IsLocalSolution e part.owned part.mirrors old.values new.values
+    → new.before ≡ old.before → length new.counters ≡ length old.counters → length hand.values ≡ length part.mirrors → IsReadyAgain e job part new counters hand
+ready-again e job part old new counters hand ready solution before room mirrors = record {
+  ready = record {
+    number = ready.number;
+    is_part = ready.is_part;
+    below_start = AllBelow-trans e.order new.values old.values (starts_of e (part.owned ++ part.mirrors)) solution.candidate.below ready.below_start;
+    owned = ap length before ∙ ready.owned;
+    room = room ∙ ready.room;
+  };
+  solved = solution.candidate.equations;
+  mirrors = mirrors;
+}
