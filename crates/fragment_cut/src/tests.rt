@@ -1,5 +1,6 @@
 ghost use Rattle.std.specs.Prelude.{◌≡◌, ◌≤◌, IfOk};
 ghost use Rattle.graph_core.specs.Graphs.{IsGraph, IsQuery, IsJob};
+ghost use Rattle.graph_core.specs.declared.settings.Policy.TheVariants.{Bsp};
 
 use super::*;
 use grape_port::NoMemory;
