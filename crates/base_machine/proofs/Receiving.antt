@@ -1,5 +1,5 @@
 -- A Give keeps fit the workers that it sends to.
-use Rattle.std.proofs.Common.{◌≡◌, ◌≢◌, ℕ, zero, suc, ◌<◌, ◌≤◌, Bool, true, false, cond, ◌==◌, if◌then◌else◌, refl, subst, arith, List, [], ◌∷◌, length, map, filter, flat_map, slice_index, slice_index_or, Contains, length-set}
+use Rattle.std.proofs.Common.{◌≡◌, ◌≢◌, ℕ, zero, suc, ◌<◌, ◌≤◌, Bool, true, false, cond, ◌==◌, if◌then◌else◌, refl, subst, arith, List, [], ◌∷◌, length, map, filter, flat_map, slice_index, slice_index_or, Contains}
 use Rattle.std.specs.List.{AllByRecursion}
 use Rattle.std.proofs.lemmas.Bool.{eqb-true, eqb-false, ne_eqb}
 use Rattle.graph_core.specs.declared.fragment.Route.{Route}
@@ -95,9 +95,3 @@ module _ (Q : Post → Type 0) (j number : ℕ) where
   pub received_new : (posts : List Post) (w : Worker) → j < length w.mail → AllByRecursion Q (pending_posts (after_receiving j number posts w)) → AllByRecursion Q posts
   received_new [] w l h = tt
   received_new (p ∷ posts) w l h = added_new Q w.mail j number (p ∷ posts) l (all_right Q w.start_posts _ h)
-
-pub received-same : (j number : ℕ) (posts : List Post) (w : Worker) →
-    let w' = after_receiving j number posts w in
-    (w'.standing ≡ w.standing) × (w'.values ≡ w.values) × (length w'.mail ≡ length w.mail)
-received-same j number [] w = (refl, refl, refl)
-received-same j number (p ∷ posts) w = (refl, refl, length-set w.mail j _)

@@ -2,6 +2,7 @@
 use Rattle.std.specs.Prelude.{List, [], ◌∷◌}
 use Rattle.value_order.specs.declared.TheConstants.{NOTHING}
 use Rattle.graph_core.specs.declared.settings.Cut.TheVariants.{Range, Hash}
+use Rattle.graph_core.specs.declared.settings.Policy.{Policy}
 use Rattle.graph_core.specs.declared.settings.Policy.TheVariants.{Ap, Aap}
 use Rattle.graph_core.specs.declared.query.Query.TheVariants.{Dist, Label}
 use Rattle.graph_core.specs.declared.job.Job.{Job}
@@ -63,6 +64,23 @@ late_and_tagged_snapshot =
           ∷ record { phase = RestPhase; values = 1 ∷ 1 ∷ 1 ∷ []; mail = NOTHING ∷ [] }
           ∷ [];
     }
+
+-- worker 1 rests, and its only batch is the tagged one of worker 0; its delay is over
+abbrev pub tagged_waits : List Event
+tagged_waits = Take 1 0 ∷ Give 1 ∷ Take 2 0 ∷ Begin 1 ∷ Mark 0 ∷ Take 0 1 ∷ Give 0 ∷ Give 2 ∷ Stretch 1 0 ∷ []
+
+-- the same graph without snapshots, under a policy
+abbrev pub parts_under : Policy → Job
+parts_under policy =
+    record {
+      graph = three_parts.graph;
+      query = Label;
+      settings = record { fragments = 3; lanes = 2; cut = Range; policy = policy; snapshot = 0 };
+    }
+
+-- worker 1 has mail and is one round ahead of worker 2, which is Fresh; its delay is over
+abbrev pub gone_ahead : List Event
+gone_ahead = Take 1 0 ∷ Give 1 ∷ Take 0 0 ∷ Give 0 ∷ Stretch 1 0 ∷ []
 
 -- two workers in turn, and a probe
 abbrev pub in_turn : List Event

@@ -7,6 +7,7 @@
 mod worked;
 
 pub use worked::{
-    asked_twice_is_legal, bounds_by_formula, choices_in_order, cut_by_marks, in_turn_is_legal,
-    kept_is_legal, late_mail_is_sealed, nobody_is_asked, stretch_runs_out, stretches_by_formula,
+    asked_twice_is_legal, bounds_by_formula, choices_in_order, cut_by_marks, events_are_refused,
+    in_turn_is_legal, kept_is_legal, late_mail_is_sealed, nobody_is_asked, rounds_are_compared,
+    stretch_runs_out, stretches_by_formula, takes_are_refused,
 };

@@ -1,6 +1,7 @@
 ghost use Rattle.std.specs.Prelude.{◌≡◌, ◌+◌, ◌*◌, ◌^◌, ◌++◌, [], ◌∷◌, true, false, Some, None, length, take};
-ghost use Rattle.graph_core.specs.declared.settings.Policy.TheVariants.{Bsp, Aap};
-ghost use Rattle.grape_event.specs.declared.event.Event.TheVariants.{Take, Give, Flag, Ask, Hold, Ack, Nack, End, Stretch};
+ghost use Rattle.graph_core.specs.declared.settings.Policy.TheVariants.{Bsp, Ap, Ssp, Aap};
+ghost use Rattle.grape_event.specs.declared.event.Event.TheVariants.{Take, Give, Flag, Ask, Hold, Ack, Nack, Begin, Mark, Seal, Kept, End, Stop, Stretch};
+ghost use Rattle.grape_event.specs.declared.event.StopCause.TheVariants.{Memory};
 ghost use Rattle.base_machine.specs.Machine.{system_of, worker_at, BaseTake, BaseGive, snapshot_of, base_state_of, base_after_all};
 ghost use Rattle.base_machine.specs.Theorems.{IsSound};
 ghost use Rattle.base_machine.specs.Bounds.{bound_of};
@@ -9,7 +10,7 @@ ghost use Rattle.legal_journal.specs.Choices.{next_choice, duty_choice};
 ghost use Rattle.legal_journal.specs.Cuts.{sealed_snapshot, cut_of, after_cut};
 ghost use Rattle.legal_journal.specs.Delays.{stretch_turns};
 ghost use Rattle.journal_examples.specs.FromFresh.{beginning, admits, IsLegalRun, state_after_run};
-ghost use Rattle.journal_examples.specs.Examples.{two_ranges, asked_twice, before_first_answer, served_after_ask, three_parts, late_and_tagged, late_and_tagged_snapshot, in_turn, backwards, stretched, alone, kept_and_ended, three_and_two, no_fragments, asked_nobody};
+ghost use Rattle.journal_examples.specs.Examples.{two_ranges, asked_twice, before_first_answer, served_after_ask, three_parts, late_and_tagged, late_and_tagged_snapshot, tagged_waits, parts_under, gone_ahead, in_turn, backwards, stretched, alone, kept_and_ended, three_and_two, no_fragments, asked_nobody};
 
 /// A run whose second worker finds its mail only after a first probe was asked.
 pub fn asked_twice_is_legal()
@@ -38,6 +39,51 @@ pub fn stretch_runs_out()
     ensures legal { admits backwards (stretched ++ Take 0 0 ∷ Give 0 ∷ Flag 0 ∷ []) ≡ true }
     ensures no_hold { admits backwards (stretched ++ Hold 0 ∷ []) ≡ false }
     ensures no_take { admits backwards (take 7 stretched ++ Take 0 0 ∷ []) ≡ false }
+{}
+
+/// Takes that lack one condition each, beside some that lack none.
+pub fn takes_are_refused()
+    ensures no_such_worker { admits two_ranges (Take 2 0 ∷ []) ≡ false }
+    ensures no_such_lane { admits two_ranges (Take 0 1 ∷ []) ≡ false }
+    ensures running { admits three_parts (Take 0 0 ∷ Take 0 1 ∷ []) ≡ false }
+    ensures lane_is_busy { admits three_parts (Take 0 0 ∷ Take 1 0 ∷ []) ≡ false }
+    ensures other_lane { admits three_parts (Take 0 0 ∷ Take 1 1 ∷ []) ≡ true }
+    ensures snapshot_is_due { admits three_parts (Take 0 0 ∷ Take 1 1 ∷ Give 1 ∷ Take 2 1 ∷ []) ≡ false }
+    ensures no_mail { admits two_ranges (Take 1 0 ∷ Give 1 ∷ Take 1 0 ∷ []) ≡ false }
+    ensures no_stretch { admits two_ranges (before_first_answer ++ Take 1 0 ∷ []) ≡ false }
+    ensures tagged { admits three_parts (tagged_waits ++ Take 1 0 ∷ []) ≡ false }
+    ensures marked { admits three_parts (tagged_waits ++ Mark 1 ∷ Take 1 0 ∷ []) ≡ true }
+{}
+
+/// A worker that is a round ahead of another one may take under each policy but the strictest.
+pub fn rounds_are_compared()
+    ensures bsp { admits (parts_under Bsp) (gone_ahead ++ Take 1 0 ∷ []) ≡ false }
+    ensures ssp { admits (parts_under (Ssp 1)) (gone_ahead ++ Take 1 0 ∷ []) ≡ true }
+    ensures aap { admits (parts_under (Aap 0 2)) (gone_ahead ++ Take 1 0 ∷ []) ≡ false }
+    ensures ap { admits (parts_under Ap) (gone_ahead ++ Take 1 0 ∷ []) ≡ true }
+    ensures enough_mail { admits (parts_under (Aap 1 1)) (take 4 gone_ahead ++ Take 1 0 ∷ []) ≡ true }
+{}
+
+/// Other events that lack one condition each.
+pub fn events_are_refused()
+    ensures no_probe { admits two_ranges (take 6 in_turn ++ End ∷ []) ≡ false }
+    ensures flag_down { admits two_ranges (take 5 in_turn ++ Ask ∷ []) ≡ false }
+    ensures asked_already { admits two_ranges (take 7 in_turn ++ Ask ∷ []) ≡ false }
+    ensures answered_already { admits two_ranges (take 8 in_turn ++ Ack 0 ∷ []) ≡ false }
+    ensures answer_missing { admits two_ranges (take 8 in_turn ++ End ∷ []) ≡ false }
+    ensures given_already { admits two_ranges (Take 0 0 ∷ Give 0 ∷ Give 0 ∷ []) ≡ false }
+    ensures many_turns { admits two_ranges (before_first_answer ++ Stretch 1 64 ∷ []) ≡ true }
+    ensures too_many_turns { admits two_ranges (before_first_answer ++ Stretch 1 65 ∷ []) ≡ false }
+    ensures second_stretch { admits two_ranges (before_first_answer ++ Stretch 1 2 ∷ Stretch 1 2 ∷ []) ≡ false }
+    ensures not_due { admits three_parts (take 2 late_and_tagged ++ Begin 1 ∷ []) ≡ false }
+    ensures other_epoch { admits three_parts (take 3 late_and_tagged ++ Begin 2 ∷ []) ≡ false }
+    ensures marked_already { admits three_parts (take 5 late_and_tagged ++ Mark 0 ∷ []) ≡ false }
+    ensures marked_running { admits three_parts (take 5 late_and_tagged ++ Mark 2 ∷ []) ≡ false }
+    ensures sealed_early { admits three_parts (take 9 late_and_tagged ++ Seal 1 ∷ []) ≡ false }
+    ensures kept_unsealed { admits three_parts (take 10 late_and_tagged ++ Kept 1 ∷ []) ≡ false }
+    ensures kept_already { admits alone (take 6 kept_and_ended ++ Kept 1 ∷ []) ≡ false }
+    ensures stopped { admits three_parts (take 5 late_and_tagged ++ Stop Memory ∷ []) ≡ true }
+    ensures ended { admits two_ranges (in_turn ++ Stop Memory ∷ []) ≡ false }
 {}
 
 /// A snapshot is kept before the end.
