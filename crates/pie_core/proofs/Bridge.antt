@@ -1,19 +1,19 @@
 -- A fragment's rows in terms of what its vertices read.
-use Rattle.std.proofs.Common.{◌≡◌, ◌≢◌, ℕ, zero, suc, ◌+◌, ◌<◌, ◌≤◌, ◌⊎◌, inl, inr, Bool, true, false, not, cond, ◌==◌, if◌then◌else◌, refl, sym, ◌∙◌, ap, subst, arith, List, [], ◌∷◌, ◌++◌, length, map, flat_map, slice_index, slice_index_or, Contains, position, option_to_list, Option, Some, None}
+use Rattle.std.proofs.Common.{◌≡◌, ◌≢◌, ℕ, zero, suc, ◌+◌, ◌<◌, ◌⊎◌, inl, inr, Bool, true, false, not, cond, ◌==◌, refl, sym, ◌∙◌, ap, subst, arith, List, [], ◌∷◌, ◌++◌, length, map, flat_map, slice_index, slice_index_or, Contains, position, option_to_list, Option, Some, None}
 use Rattle.std.specs.Prelude.{nat_lt}
 use Rattle.std.specs.List.{position_or_len}
 use Rattle.std.proofs.lemmas.Bool.{eqb-true, eq-eqb, ne_eqb, lt-ltb}
-use Rattle.std.proofs.lemmas.List.{length-map, get_or-map}
+use Rattle.std.proofs.lemmas.List.{get_or-map}
 use Rattle.std.proofs.lemmas.List.Elements.{Contains-get_or}
 use Rattle.std.proofs.lemmas.List.FromFn.{length-map-range_with_len, get_or-map-range_with_len}
 use Rattle.std.proofs.lemmas.List.Quantifiers.{position-Some}
 use Rattle.graph_core.specs.declared.job.Job.{Job}
 use Rattle.graph_core.specs.declared.fragment.Reading.{Reading}
-use Rattle.graph_core.specs.Graphs.{count_of, IsJob}
+use Rattle.graph_core.specs.Graphs.{IsJob}
 use Rattle.graph_core.specs.Queries.{Read, reads_of, equations_of}
 use Rattle.graph_core.specs.Fragments.{pieces_of, piece_at, piece_of, no_piece, owned_of, mirrors_of, places_of, place_of, readings_of, readers_of, insert_reading, sorted_readings, comes_before, StandsAt, AreCutOf}
 use Rattle.graph_core.proofs.Lists.{contains_here, contains_later, contains_none, contains_cases, contains_map, map_contains, contains_flat_map, flat_map_contains}
-use Rattle.graph_core.proofs.Cutting.{fragments_cut, stands_left, stands_cases}
+use Rattle.graph_core.proofs.Cutting.{fragments_cut, stands_left}
 use Rattle.pie_core.specs.Solutions.{value_at}
 
 -- ---- sorting keeps what a list holds

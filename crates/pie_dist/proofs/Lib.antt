@@ -1,4 +1,4 @@
 pub mod Steps
 pub mod Mirrors
 pub mod Solved
-pub mod SecondPart
+pub mod WorkedParts

@@ -11,6 +11,7 @@ use value_order::Order;
 pub struct Dist;
 
 impl Dist {
+    /// The program. The source is the job's, and stands in the start values alone.
     pub fn new() -> Dist {
         Dist
     }

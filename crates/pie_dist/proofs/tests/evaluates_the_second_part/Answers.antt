@@ -5,7 +5,7 @@ use Rattle.message_buffer.specs.HandValues.{HandValues}
 use Rattle.message_buffer.specs.Hands.{lowered_hand}
 use Rattle.pie_core.specs.Solutions.{IsReadyFor}
 use Rattle.pie_dist.specs.Worked.{two_ranges}
-use Rattle.pie_dist.proofs.SecondPart.{row_is_for, second_ready, ready-again}
+use Rattle.pie_dist.proofs.WorkedParts.{row_is_for, second_ready, ready-again}
 use Rattle.pie_dist.proofs.tests.evaluates_the_second_part.Goals as goal
 
 pub peval-requires : goal.peval-requires

@@ -1,4 +1,4 @@
-use Rattle.pie_dist.proofs.SecondPart.{row_is_for}
+use Rattle.pie_dist.proofs.WorkedParts.{row_is_for}
 use Rattle.pie_dist.proofs.worked.second_part_values.Goals as goal
 
 pub returns-clause-job : goal.returns-clause-job
