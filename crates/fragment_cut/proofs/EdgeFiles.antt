@@ -1,5 +1,5 @@
 -- What is filed along edges is what their vertices read.
-use Rattle.std.proofs.Common.{◌≡◌, ℕ, ◌+◌, ◌<◌, Bool, true, false, cond, ◌==◌, List, [], ◌∷◌, ◌++◌, length, map, filter, flat_map, take, get_or, refl, ◌∙◌, sym, ap, subst, arith, eqb-true, eq-eqb}
+use Rattle.std.proofs.Common.{◌≡◌, ℕ, ◌+◌, ◌<◌, Bool, true, false, cond, ◌==◌, List, [], ◌∷◌, ◌++◌, length, map, filter, flat_map, take, get_or, refl, ◌∙◌, sym, ap, subst, eqb-true, eq-eqb}
 use Rattle.std.specs.Prelude.{All}
 use Rattle.std.specs.List.{range_with_len, AllByRecursion}
 use Rattle.std.proofs.lemmas.Bool.{both_ways}
@@ -7,7 +7,6 @@ use Rattle.std.proofs.lemmas.List.{append-nil, map-append, take_more}
 use Rattle.std.proofs.lemmas.List.Concat.{flat_map-append}
 use Rattle.std.proofs.lemmas.List.Elements.{filter-append, All-append, All-head, All-tail, All-nil, All-from_recursion}
 use Rattle.graph_core.specs.declared.edge.Edge.{Edge}
-use Rattle.graph_core.specs.declared.fragment.Reading.{Reading}
 use Rattle.graph_core.specs.declared.query.Query.{Query}
 use Rattle.graph_core.specs.declared.query.Query.TheVariants.{Dist, Label, Reach, Sim}
 use Rattle.graph_core.specs.Digraph.{Digraph, count_of, IsGraph}

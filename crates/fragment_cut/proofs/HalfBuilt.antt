@@ -1,13 +1,12 @@
 -- What the steps leave from which a fragment without routes is built.
-use Rattle.std.proofs.Common.{◌≡◌, ℕ, ◌+◌, ◌<◌, List, [], ◌∷◌, ◌++◌, length, map, take, drop, slice_index, get_or, refl, ◌∙◌, sym, ap, subst, arith}
+use Rattle.std.proofs.Common.{◌≡◌, ℕ, ◌<◌, List, ◌++◌, length, map, take, drop, slice_index, ◌∙◌, sym, ap, subst}
 use Rattle.std.specs.Prelude.{All}
-use Rattle.std.specs.List.{AllByRecursion}
 use Rattle.std.proofs.lemmas.List.Elements.{All-map}
 use Rattle.std.proofs.lemmas.List.{length-map, take_at}
 use Rattle.graph_core.specs.declared.job.Job.{Job}
 use Rattle.graph_core.specs.declared.fragment.Reading.{Reading}
-use Rattle.graph_core.specs.Graphs.{count_of, IsJob}
-use Rattle.graph_core.specs.Fragments.{owned_of, mirrors_of, places_of, readings_of, readers_of, StandsAt}
+use Rattle.graph_core.specs.Graphs.{IsJob}
+use Rattle.graph_core.specs.Fragments.{owned_of, mirrors_of, places_of, readings_of, StandsAt}
 use Rattle.fragment_cut.specs.Filing.{Filed, table, reads_table, filed_rows, with_place, turned}
 use Rattle.fragment_cut.specs.Halves.{HalfLists, half_of}
 use Rattle.fragment_cut.proofs.Placing.{filed_owned, filed_placed, readings_are, readers_are}

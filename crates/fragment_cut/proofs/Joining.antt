@@ -1,14 +1,14 @@
 -- Steps of the loops that make all fragments.
-use Rattle.std.proofs.Common.{◌≡◌, ℕ, ◌+◌, ◌<◌, ◌≤◌, List, [], ◌∷◌, ◌++◌, ◌==◌, length, map, take, drop, get_or, refl, ◌∙◌, sym, ap, subst, arith}
+use Rattle.std.proofs.Common.{◌≡◌, ℕ, ◌+◌, ◌<◌, List, [], ◌∷◌, ◌++◌, ◌==◌, length, map, take, drop, get_or, refl, ◌∙◌, sym, ap, subst, arith}
 use Rattle.std.specs.Prelude.{All}
 use Rattle.std.proofs.lemmas.List.{length-take, length-append, length-drop}
 use Rattle.std.proofs.lemmas.List.FromFn.{map-range_with_len_more}
 use Rattle.graph_core.specs.declared.job.Job.{Job}
 use Rattle.graph_core.specs.declared.fragment.Reading.{Reading}
 use Rattle.graph_core.specs.declared.fragment.Route.{Route}
-use Rattle.graph_core.specs.Graphs.{count_of, number_at, IsJob}
+use Rattle.graph_core.specs.Graphs.{count_of, number_at}
 use Rattle.graph_core.specs.Parts.{FragmentLists, IsFragment}
-use Rattle.graph_core.specs.Fragments.{owner, owner_of, numbers_below, owned_of, routes_of, fragment_of, fragments_of}
+use Rattle.graph_core.specs.Fragments.{owner, owner_of, numbers_below, owned_of, fragment_of, fragments_of}
 use Rattle.graph_core.proofs.FragmentRows.{fragment_is_one}
 use Rattle.graph_core.proofs.Cutting as Cutting
 use Rattle.std.proofs.lemmas.List.{get_or_default}

@@ -1,15 +1,15 @@
 -- Each equation of a job stands in exactly one of its fragments.
-use Rattle.std.proofs.Common.{◌≡◌, ℕ, ◌+◌, ◌<◌, Bool, true, false, cond, List, [], ◌∷◌, ◌++◌, length, map, flat_map, slice_index, slice_index_or, get_or, Contains, refl, ◌∙◌, sym, ap, subst, arith}
+use Rattle.std.proofs.Common.{◌≡◌, ℕ, ◌<◌, Bool, true, false, cond, List, [], ◌∷◌, ◌++◌, length, map, flat_map, slice_index_or, Contains, refl, ◌∙◌, sym, ap, subst, arith}
 use Rattle.std.specs.List.Sorted.{IsPermutation}
 use Rattle.std.proofs.lemmas.List.{get_or-map, map-append}
 use Rattle.std.proofs.lemmas.List.FromFn.{get_or-map-range_with_len, length-map-range_with_len}
 use Rattle.std.proofs.lemmas.List.Sorted.{IsPermutation-refl, IsPermutation-cons, IsPermutation-trans, IsPermutation-middle, IsPermutation-map}
 use Rattle.graph_core.specs.declared.job.Job.{Job}
 use Rattle.graph_core.specs.declared.fragment.Reading.{Reading}
-use Rattle.graph_core.specs.Graphs.{count_of, IsJob}
+use Rattle.graph_core.specs.Graphs.{IsJob}
 use Rattle.graph_core.specs.Parts.{FragmentLists}
-use Rattle.graph_core.specs.Queries.{Read, reads_of, equations_of}
-use Rattle.graph_core.specs.Fragments.{numbers_below, owned_of, mirrors_of, places_of, place_of, readings_of, fragment_of, fragments_of, sorted_readings, insert_reading, comes_before, StandsAt, Piece, no_piece, piece_at, piece_of, pieces_of, IsOwnedAt}
+use Rattle.graph_core.specs.Queries.{Read, reads_of}
+use Rattle.graph_core.specs.Fragments.{owned_of, place_of, readings_of, fragment_of, fragments_of, sorted_readings, insert_reading, comes_before, StandsAt, Piece, no_piece, piece_at, piece_of, pieces_of, IsOwnedAt}
 use Rattle.graph_core.proofs.Lists.{contains_here, contains_later}
 use Rattle.graph_core.proofs.Cutting as Cutting
 use Rattle.fragment_cut.specs.Cut.{no_fragment, fragment_at, OwnsAt, read_at, EachEquationOnce}

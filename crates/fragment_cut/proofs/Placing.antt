@@ -1,24 +1,24 @@
 -- The tables of a fragment are the rows of its readings and readers.
-use Rattle.std.proofs.Common.{◌≡◌, ◌≢◌, ℕ, zero, suc, ◌+◌, ◌<◌, ◌≤◌, ◌⊎◌, Bool, true, false, not, ◌&&◌, ◌||◌, cond, ◌==◌, List, [], ◌∷◌, ◌++◌, length, map, filter, flat_map, slice_index, slice_index_or, get_or, Contains, refl, ◌∙◌, sym, ap, subst, inl, inr, arith, Some, None, eqb-true, eq-eqb}
-use Rattle.std.specs.Prelude.{All, sum_by, nat_lt, option_to_list, position}
+use Rattle.std.proofs.Common.{◌≡◌, ◌≢◌, ℕ, zero, suc, ◌+◌, ◌<◌, ◌≤◌, Bool, true, false, not, ◌&&◌, ◌||◌, cond, ◌==◌, List, [], ◌∷◌, ◌++◌, length, map, filter, flat_map, slice_index, slice_index_or, Contains, refl, ◌∙◌, sym, ap, subst, inl, inr, arith, Some, None, eq-eqb}
+use Rattle.std.specs.Prelude.{All, sum_by, nat_lt, option_to_list}
 use Rattle.std.specs.List.{AllByRecursion, range_with_len, list_any, position_or_len}
-use Rattle.std.proofs.lemmas.Bool.{ne_eqb, eqb-false, lt-ltb, cases_eq, cases_lt, both_ways}
-use Rattle.std.proofs.lemmas.List.{length-map, length-append, get_or-map, get_or_default}
-use Rattle.std.proofs.lemmas.List.FromFn.{fill_by_all, length-map-range_with_len, get_or-map-range_with_len, get_or-range_with_len, length-range_with_len}
+use Rattle.std.proofs.lemmas.Bool.{ne_eqb, lt-ltb, cases_eq}
+use Rattle.std.proofs.lemmas.List.{get_or_default}
+use Rattle.std.proofs.lemmas.List.FromFn.{fill_by_all, length-map-range_with_len, get_or-map-range_with_len, length-range_with_len}
 use Rattle.std.proofs.lemmas.List.Sums.{sum_by-cons, sum_by-append, position_or_len_is, length-filter, count_by-le-length}
 use Rattle.std.proofs.lemmas.List.Elements.{All-from_recursion}
 use Rattle.std.proofs.lemmas.List.Folds.{fold-map, list_any-append}
 use Rattle.graph_core.specs.declared.job.Job.{Job}
 use Rattle.graph_core.specs.declared.fragment.Reading.{Reading}
 use Rattle.graph_core.specs.Graphs.{count_of, IsJob}
-use Rattle.graph_core.specs.Queries.{Read, reads_of, equations_of}
-use Rattle.graph_core.specs.Fragments.{owner, numbers_below, owned_of, mirrors_of, places_of, place_of, is_read_in, readings_of, readers_of, sorted_readings, insert_reading, comes_before, StandsAt, Piece, no_piece, piece_at, piece_of, pieces_of, places, IsOwnedAt}
+use Rattle.graph_core.specs.Queries.{Read, reads_of}
+use Rattle.graph_core.specs.Fragments.{owner, numbers_below, owned_of, mirrors_of, places_of, place_of, is_read_in, readings_of, readers_of, sorted_readings, insert_reading, comes_before, StandsAt, Piece, no_piece, piece_at, piece_of, pieces_of, places}
 use Rattle.graph_core.proofs.Lists.{contains_here, contains_later, contains_map}
 use Rattle.graph_core.proofs.Cutting as Cutting
 use Rattle.fragment_cut.specs.Filing.{Filed, reading_of, filed_under, table, reading_at, reads_table, file_under, filed_rows, with_place, turned}
-use Rattle.fragment_cut.specs.Owners.{StandOnce, StandsNowhere}
+use Rattle.fragment_cut.specs.Owners.{StandOnce}
 use Rattle.fragment_cut.proofs.InOrder.{SameSums, sorted_same, sum_by-sorted_readings}
-use Rattle.fragment_cut.proofs.SortedFiled.{sum_under, map_same}
+use Rattle.fragment_cut.proofs.SortedFiled.{sum_under}
 
 -- ---- sums
 

@@ -1,8 +1,8 @@
 -- The rows of all mirrors, filed under their vertices, are the routes.
-use Rattle.std.proofs.Common.{◌≡◌, ◌≢◌, ℕ, zero, suc, ◌+◌, ◌<◌, ◌≤◌, Bool, true, false, not, ◌&&◌, cond, ◌==◌, List, [], ◌∷◌, ◌++◌, length, map, filter, flat_map, slice_index, slice_index_or, get_or, Option, Some, None, refl, ◌∙◌, sym, ap, subst, inl, inr, arith, eqb-true, eq-eqb}
+use Rattle.std.proofs.Common.{◌≡◌, ◌≢◌, ℕ, zero, suc, ◌+◌, ◌<◌, ◌≤◌, Bool, true, false, not, ◌&&◌, cond, ◌==◌, List, [], ◌∷◌, ◌++◌, length, map, filter, flat_map, slice_index, get_or, Option, Some, None, refl, ◌∙◌, sym, ap, inl, inr, arith, eqb-true, eq-eqb}
 use Rattle.std.specs.Prelude.{All, sum_by, nat_lt, option_to_list, position}
 use Rattle.std.specs.List.{AllByRecursion, range_with_len, position_or_len}
-use Rattle.std.proofs.lemmas.Bool.{ne_eqb, eqb-false, cases_eq, cases_lt}
+use Rattle.std.proofs.lemmas.Bool.{ne_eqb, eqb-false, cases_eq}
 use Rattle.std.proofs.lemmas.Bool.Decides.{nat_tests}
 use Rattle.std.proofs.lemmas.List.{map-append, append-nil, append_assoc, get_or_default}
 use Rattle.std.proofs.lemmas.List.FromFn.{map-range_with_len_more, get_or-map-range_with_len, length-map-range_with_len}
@@ -13,13 +13,13 @@ use Rattle.std.proofs.lemmas.List.Sums.{fails_before_first}
 use Rattle.graph_core.specs.declared.job.Job.{Job}
 use Rattle.graph_core.specs.declared.fragment.Reading.{Reading}
 use Rattle.graph_core.specs.declared.fragment.Route.{Route}
-use Rattle.graph_core.specs.Graphs.{count_of, IsJob}
-use Rattle.graph_core.specs.Fragments.{owner, numbers_below, owned_of, mirrors_of, is_read_in, route_to, routes_of, sorted_readings, comes_before, StandsAt}
+use Rattle.graph_core.specs.Graphs.{count_of}
+use Rattle.graph_core.specs.Fragments.{owner, numbers_below, owned_of, mirrors_of, is_read_in, route_to, routes_of, sorted_readings}
 use Rattle.graph_core.proofs.Cutting as Cutting
 use Rattle.fragment_cut.specs.Filing.{Filed, reading_of, filed_under, table}
 use Rattle.fragment_cut.specs.Owners.{StandOnce}
 use Rattle.fragment_cut.specs.Routing.{filed_mirror, filed_mirrors, route_of, reading_to, routes_table, routes_in}
-use Rattle.fragment_cut.proofs.InOrder.{goes, Rises, RisesFrom, rising_is_sorted, SameSums}
+use Rattle.fragment_cut.proofs.InOrder.{goes, Rises, RisesFrom, rising_is_sorted}
 use Rattle.fragment_cut.proofs.SortedFiled.{map_same}
 use Rattle.fragment_cut.proofs.EdgeFiles.{under-append}
 use Rattle.fragment_cut.specs.Halves.{HalfLists, half_of}

@@ -1,10 +1,10 @@
 -- The mirrors of each vertex, and the routes that lead to them.
-use Rattle.std.specs.Prelude.{ℕ, List, [], map, flat_map, length, slice_index, slice_index_or}
+use Rattle.std.specs.Prelude.{ℕ, List, [], map, length, slice_index, slice_index_or}
 use Rattle.graph_core.specs.declared.job.Job.{Job}
 use Rattle.graph_core.specs.declared.fragment.Reading.{Reading}
 use Rattle.graph_core.specs.declared.fragment.Route.{Route}
 use Rattle.graph_core.specs.Graphs.{count_of}
-use Rattle.graph_core.specs.Fragments.{numbers_below, mirrors_of, routes_of}
+use Rattle.graph_core.specs.Fragments.{numbers_below, routes_of}
 use Rattle.fragment_cut.specs.Filing.{Filed}
 
 -- mirror m of fragment k, filed under its vertex

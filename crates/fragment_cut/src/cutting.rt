@@ -67,9 +67,12 @@ fn joined(
     Ok(fragments)
 }
 
-/// The fragments of a job, as many as its settings say, by number.
+/// The fragments of a job, as many as its settings say, by number. Each vertex is owned by one of them,
+/// at one place, and its readings there are what its equation reads.
 ///
-/// Each vertex is owned by one fragment, and each equation stands in one.
+/// It takes the time of three sorts of what is read along the edges, and two passes over the vertices a
+/// fragment. No memory is taken a vertex or an edge: tables are dense. Where memory runs out, nothing is
+/// left.
 pub fn fragment(alloc: Global, job: &Job) -> Result<Vec<Fragment>, NoMemory>
     requires { IsJob job.now }
     ensures made { IfOk result (λ fragments. fragments.items ≡ fragments_of job.now) }

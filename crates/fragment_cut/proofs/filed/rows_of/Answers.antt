@@ -1,5 +1,4 @@
-use Rattle.std.proofs.Common.{◌≡◌, ◌∙◌, ap, map, slice_range}
-use Rattle.fragment_cut.specs.Filing.{reading_of, filed_under}
+use Rattle.std.proofs.Common.{◌∙◌, ap, slice_range}
 use Rattle.fragment_cut.proofs.FiledRows.{split_more, row_between, rows_more}
 use Rattle.fragment_cut.proofs.filed.rows_of.Goals as goal
 

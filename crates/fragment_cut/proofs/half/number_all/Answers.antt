@@ -1,4 +1,4 @@
-use Rattle.std.proofs.Common.{◌<◌, ◌++◌, ℕ, length, ◌+◌, arith}
+use Rattle.std.proofs.Common.{length, ◌+◌, arith}
 use Rattle.std.proofs.lemmas.List.{length-append, get_or-append-add}
 use Rattle.fragment_cut.proofs.Pieces.{numbered_all, once_left, once_right}
 use Rattle.fragment_cut.proofs.half.number_all.Goals as goal

@@ -1,4 +1,4 @@
-use Rattle.std.proofs.Common.{◌<◌, ◌≡◌, ◌==◌, ◌&&◌, not, ℕ, Bool, length, sym, ◌∙◌, arith}
+use Rattle.std.proofs.Common.{◌<◌, ◌==◌, ◌&&◌, not, ℕ, Bool, sym, ◌∙◌, arith}
 use Rattle.graph_core.specs.Graphs.{count_of}
 use Rattle.graph_core.specs.Fragments.{owner, is_read_in}
 use Rattle.fragment_cut.proofs.Pieces.{owners_len, mirror_test, unread_test, own_test, taken, left}

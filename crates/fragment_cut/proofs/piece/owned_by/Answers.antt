@@ -1,4 +1,4 @@
-use Rattle.std.proofs.Common.{◌<◌, ◌≡◌, ◌==◌, ℕ, Bool, length, arith}
+use Rattle.std.proofs.Common.{◌<◌, ◌==◌, ℕ, Bool, arith}
 use Rattle.graph_core.specs.Graphs.{count_of}
 use Rattle.graph_core.specs.Fragments.{owner}
 use Rattle.fragment_cut.proofs.Pieces.{owners_len, owned_test, foreign_test, taken, left}

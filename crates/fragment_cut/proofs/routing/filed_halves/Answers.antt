@@ -1,4 +1,4 @@
-use Rattle.std.proofs.Common.{◌≡◌, ◌<◌, List, length, ap, ◌∙◌, arith}
+use Rattle.std.proofs.Common.{length, ap, ◌∙◌, arith}
 use Rattle.fragment_cut.specs.Halves.{HalfLists}
 use Rattle.fragment_cut.proofs.Placing.{few_mirrors}
 use Rattle.fragment_cut.proofs.RouteTables.{half_at, halves_len, halves_more}

@@ -1,6 +1,6 @@
 use Rattle.std.specs.Prelude.{All}
 use Rattle.std.proofs.lemmas.List.{length-append}
-use Rattle.std.proofs.Common.{◌≡◌, ◌+◌, map, refl, ◌<◌, ◌++◌, ℕ, List, length, slice_index, subst, sym, ap, ◌∙◌, arith}
+use Rattle.std.proofs.Common.{◌+◌, map, refl, ◌<◌, ◌++◌, ℕ, List, length, subst, sym, ap, ◌∙◌, arith}
 use Rattle.graph_core.specs.Graphs.{count_of}
 use Rattle.graph_core.specs.Fragments.{owned_of, mirrors_of, places_of, StandsAt}
 use Rattle.fragment_cut.specs.Filing.{Filed, reads_table, filed_rows, with_place, turned, table}
