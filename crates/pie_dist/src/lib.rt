@@ -17,4 +17,6 @@ pub use laws::dist_equations;
 pub use worked::second_part_values;
 
 #[cfg(test)]
+mod plain;
+#[cfg(test)]
 mod tests;
