@@ -3,3 +3,4 @@ pub mod Mirrors
 pub mod Solved
 pub mod WorkedParts
 pub mod Readings
+pub mod Starting
