@@ -17,4 +17,8 @@ pub use laws::dist_equations;
 pub use worked::second_part_values;
 
 #[cfg(test)]
+mod compared;
+#[cfg(test)]
+mod plain;
+#[cfg(test)]
 mod tests;
