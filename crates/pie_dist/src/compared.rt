@@ -12,6 +12,7 @@ use crate::plain::PlainDist;
 use fragment_cut::fragment;
 use grape_port::NoMemory;
 use graph_core::{Cut, Edge, Fragment, Graph, Job, Policy, Query, Settings};
+use graph_text::{LineReader, TextFault};
 use message_buffer::Hand;
 use pie_core::{Local, Pie};
 use std::alloc::Global;
@@ -169,6 +170,68 @@ fn chain(alloc: Global) -> Result<Graph, NoMemory>
             edge(3, 4, 4_294_967_295),
         ],
     )
+}
+
+/// The graph of these edge lines, which has the vertex 0.
+fn read(alloc: Global, lines: &str) -> Result<Graph, TextFault>
+    ensures { IfOk result IsGraph }
+{
+    let mut reader = LineReader::new(alloc)?;
+    reader.feed(b"query dist 0\n0 0 0\n")?;
+    reader.feed(lines.as_bytes())?;
+    let Job {
+        graph,
+        query: _,
+        settings: _,
+    } = reader.finish()?;
+    Ok(graph)
+}
+
+/// Twelve edges between seven vertices, by a number: loops, edges that are repeated, weights from 0 to 4.
+fn generated(alloc: Global, number: u64) -> Result<Graph, TextFault>
+    ensures { IfOk result IsGraph }
+{
+    let mut lines = String::new(alloc);
+    let mut word = number;
+    for _ in 0..12 {
+        word = word
+            .wrapping_mul(6_364_136_223_846_793_005)
+            .wrapping_add(1_442_695_040_888_963_407);
+        let from = (word >> 33) % 7;
+        let to = (word >> 40) % 7;
+        let weight = (word >> 50) % 5;
+        let line = format!(in alloc; "{from} {to} {weight}\n")?;
+        lines.push_str(line.as_str())?;
+    }
+    read(alloc, lines.as_str())
+}
+
+/// Sixty edges of the largest weight, one behind the other, and a vertex that none reaches.
+fn long_chain(alloc: Global) -> Result<Graph, TextFault>
+    ensures { IfOk result IsGraph }
+{
+    let mut lines = String::from_str(alloc, "99 0 1\n")?;
+    for vertex in 0..60u32 {
+        let next = vertex + 1;
+        let line = format!(in alloc; "{vertex} {next} 4294967295\n")?;
+        lines.push_str(line.as_str())?;
+    }
+    read(alloc, lines.as_str())
+}
+
+#[test]
+fn both_programs_agree_on_generated_graphs(rt: HostRuntime) -> Result<(), Fail> {
+    for number in 1..9 {
+        for fragments in 1..4 {
+            let by_range = job(generated(rt.alloc(), number)?, 0, fragments, Cut::Range);
+            compare_all(&rt, rt.alloc(), &by_range)?;
+            let by_hash = job(generated(rt.alloc(), number)?, 3, fragments, Cut::Hash);
+            compare_all(&rt, rt.alloc(), &by_hash)?;
+        }
+    }
+    let chain = job(long_chain(rt.alloc())?, 0, 5, Cut::Hash);
+    compare_all(&rt, rt.alloc(), &chain)?;
+    Ok(())
 }
 
 #[test]
