@@ -1,2 +1,4 @@
 pub mod HandValues
 pub mod Hands
+pub mod BufferValues
+pub mod Buffers

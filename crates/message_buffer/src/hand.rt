@@ -1,7 +1,9 @@
 ghost use Rattle.std.specs.Prelude.{◌≡◌, ◌≢◌, ◌<◌, ◌↔◌, IfOk, IsTrue, All, length, replicate, slice_index, slice_set};
 ghost use Rattle.value_order.specs.Order.{meet_of};
 ghost use Rattle.message_buffer.specs.Hands.{new_hand, lowered_hand};
+ghost use Rattle.message_buffer.specs.Buffers.{meets_of};
 
+use crate::meets::meet_into;
 use grape_port::NoMemory;
 use std::alloc::Global;
 use std::marker::Model;
@@ -28,7 +30,7 @@ impl Hand {
     pub fn new(alloc: Global, order: Order, mirrors: u32) -> Result<Hand, NoMemory>
         ensures { IfOk result (λ hand. hand ≡ new_hand order mirrors) }
     {
-        let values = vec![in alloc; NOTHING; mirrors as usize].map_err(|_| NoMemory)?;
+        let values = vec![in alloc; NOTHING; mirrors as usize]?;
         Ok(Hand { order, values })
     }
 
@@ -41,6 +43,16 @@ impl Hand {
     {
         let place = mirror as usize;
         self.values[place] = meet(self.order, self.values[place], value);
+    }
+
+    /// The value of each mirror becomes the meet of two others. The lists have a value for each mirror.
+    pub(crate) fn fill(&mut self, plain: &[u64], tagged: &[u64])
+        requires plain { length plain.now ≡ length self.old.values }
+        requires tagged { length tagged.now ≡ length self.old.values }
+        ensures { self.new ≡ record { order = self.old.order; values = meets_of self.old.order plain.now tagged.now } }
+    {
+        self.values.copy_from_slice(plain);
+        meet_into(self.order, &mut self.values, tagged);
     }
 
     /// The value of each mirror, `NOTHING` where no message came.

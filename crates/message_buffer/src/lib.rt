@@ -1,10 +1,15 @@
 //! The mail of a worker: border values that other fragments sent, by mirror.
 //!
-//! Today it has the hand alone: what a worker takes into one evaluation.
+//! A [`Buffer`] holds the mail that waits for a worker, and a [`Hand`] what the worker took into one evaluation. It promises
+//! that a take gives for each mirror the meet of all values that were posted to it since the take before, and that posting
+//! takes no memory.
 #![tactic(auto)]
 
+mod buffer;
 mod hand;
+mod meets;
 
+pub use buffer::Buffer;
 pub use hand::Hand;
 
 #[cfg(test)]
