@@ -1,6 +1,7 @@
 ghost use Rattle.std.specs.Prelude.{◌≡◌, ℕ, length};
 ghost use Rattle.graph_core.specs.declared.job.Job.{Job};
 ghost use Rattle.graph_core.specs.Equations.{Equations, AreLawful};
+ghost use Rattle.graph_core.specs.Queries.{equations_of};
 ghost use Rattle.pie_core.specs.Solutions.{IsLocalSolution, lowered, IsReadyFor, IsReadyAgain};
 
 use crate::local::Local;
@@ -49,6 +50,9 @@ pub trait Pie: Drop {
         ensures values { length local.new.values ≡ length local.old.values }
         ensures before { local.new.before ≡ local.old.before }
         ensures counters { length local.new.counters ≡ length local.old.counters };
+
+    /// The equations are those of the job's query.
+    ghost of_query: { (p : Self) (job : Job) → is_for p job → equations p job ≡ equations_of job };
 
     /// The equations are monotone in what they read and depend on nothing else, the starts lie above them, and each
     /// start is a value.

@@ -18,6 +18,7 @@ impl Dist {
 }
 
 impl Pie for Dist {
+    ghost use Rattle.std.proofs.Common.{refl};
     ghost use Rattle.graph_core.specs.Queries.{equations_of};
     ghost use Rattle.graph_core.proofs.Lawful.{lawful as lawful_equations};
     ghost use Rattle.pie_dist.specs.DistJobs.{IsDistJob};
@@ -27,6 +28,8 @@ impl Pie for Dist {
     ghost equations = { λ dist job. equations_of job };
 
     ghost counters_for = { λ job. 0 };
+
+    ghost of_query = { λ dist job h. refl };
 
     ghost lawful = { λ dist job h. lawful_equations job.graph job.query h.0.graph };
 

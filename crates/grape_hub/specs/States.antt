@@ -1,0 +1,67 @@
+-- The state that a hub's journal leads to, and what is out with the lanes.
+use Rattle.std.specs.Prelude.{◌≡◌, ℕ, ◌+◌, ◌<◌, ◌≤◌, Bool, true, false, ◌==◌, if◌then◌else◌, IsTrue, List, [], ◌∷◌, Option, Some, None, length, count_by}
+use Rattle.std.specs.List.{AllByRecursion}
+use Rattle.graph_core.specs.declared.settings.Policy.TheVariants.{Ap}
+use Rattle.graph_core.specs.Graphs.{IsJob}
+use Rattle.graph_core.specs.Fragments.{Piece, piece_at}
+use Rattle.grape_event.specs.declared.event.Event.{Event}
+use Rattle.grape_event.specs.declared.event.Event.TheVariants.{Take, Give, Stretch}
+use Rattle.token_cut.specs.Parts.{SnapshotParts}
+use Rattle.base_machine.specs.Machine.{System, system_of, BaseState, Worker, worker_at, is_running, fresh_snapshot}
+use Rattle.legal_journal.specs.Past.{lane_of}
+use Rattle.legal_journal.specs.Legal.{State, state_at_end, worker_count, IsLegal}
+use Rattle.grape_hub.specs.HubValues.{HubValues}
+
+-- what the hub runs, and where it begins
+abbrev pub machine : HubValues → System
+machine h = system_of h.job
+
+abbrev pub beginning : HubValues → SnapshotParts
+beginning h = fresh_snapshot (machine h)
+
+-- the state after the hub's journal
+abbrev pub state_of : HubValues → State
+state_of h = state_at_end (machine h) (beginning h) h.journal.events
+
+abbrev pub workers_of : HubValues → BaseState
+workers_of h = (state_of h).workers
+
+abbrev pub piece_of_worker : HubValues → ℕ → Piece
+piece_of_worker h i = piece_at (machine h).pieces i
+
+-- ---- what is out
+
+-- the place of the last Take of i, where there was one
+abbrev pub take_place : ℕ → List Event → Option ℕ
+take_place i [] = None
+take_place i (Take j k ∷ past) = if i == j then Some (length past) else take_place i past
+take_place i (_ ∷ past) = take_place i past
+
+-- the worker is out with this lane, since the Take at this place
+pub record IsOut (s : State) (lane worker place : ℕ) : Type 0 where
+  pub worker : worker < worker_count s
+  pub running : is_running (worker_at s.workers worker) ≡ true
+  pub lane : lane_of worker s.past ≡ Some lane
+  pub place : take_place worker s.past ≡ Some place
+
+-- how many workers are out
+abbrev pub works_out : BaseState → ℕ
+works_out ws = count_by is_running ws
+
+-- ---- what every hub keeps
+
+-- the kinds of events that a hub appends so far
+abbrev pub is_built : Event → Bool
+is_built (Take i k) = true
+is_built (Give i) = true
+is_built (Stretch i turns) = true
+is_built _ = false
+
+-- The job lies within the limits, its policy is AP and it asks for no snapshots. The journal is legal from the beginning, and has room for a Give of each worker that is out.
+pub record IsHub (h : HubValues) : Type 0 where
+  pub job : IsJob h.job
+  pub policy : h.job.settings.policy ≡ Ap
+  pub snapshot : h.job.settings.snapshot ≡ 0
+  pub legal : IsLegal (machine h) (beginning h) h.journal.events
+  pub built : AllByRecursion (λ e. is_built e ≡ true) h.journal.events
+  pub room : works_out (workers_of h) ≤ h.journal.spare

@@ -1,0 +1,17 @@
+ghost use Rattle.grape_hub.specs.Theorems.{IdleIsQuiet, QuietIsTheAnswer, JournalIsBounded};
+
+/// Where nobody is out and a lane has nothing to do, every worker rests and no mail waits.
+pub fn idle_is_quiet()
+    ensures { IdleIsQuiet }
+{}
+
+/// Where every worker rests and no mail waits, the values of the owners are the greatest solution, whatever the order in
+/// which the workers went on.
+pub fn quiet_is_the_answer()
+    ensures { QuietIsTheAnswer }
+{}
+
+/// A hub's journal has at most so many events.
+pub fn hubs_are_bounded()
+    ensures { JournalIsBounded }
+{}

@@ -1,0 +1,18 @@
+//! The core of the engine: which worker may go on, what it takes, and where what it gives is sent.
+//!
+//! A [`Hub`] serves the workers of a job, one for each fragment, to lanes. It promises that its journal is legal, that it
+//! is itself the state after that journal, and that [`Hub::next`] appends the first event that is admitted in the order
+//! of choice. It evaluates nothing: a lane gets a [`Work`], evaluates it, and gives it back.
+#![tactic(auto)]
+
+mod choice;
+mod desk;
+mod hub;
+mod laws;
+mod open;
+mod posting;
+mod work;
+
+pub use hub::Hub;
+pub use laws::{hubs_are_bounded, idle_is_quiet, quiet_is_the_answer};
+pub use work::{Next, Work};

@@ -1,0 +1,98 @@
+ghost use Rattle.std.specs.Prelude.{◌≡◌, ◌++◌, map, All, IfOk};
+ghost use Rattle.graph_core.specs.Graphs.{IsJob};
+ghost use Rattle.graph_core.specs.Queries.{equations_of};
+ghost use Rattle.pie_core.specs.Solutions.{starts_of};
+ghost use Rattle.grape_hub.specs.Openings.{new_desk, HasVertices};
+
+use crate::desk::{Desk, Seat};
+use grape_port::NoMemory;
+use graph_core::{Fragment, Job, Route, Rows};
+use message_buffer::{Buffer, Hand};
+use pie_core::Local;
+use std::alloc::Global;
+use value_order::Order;
+
+/// The routes of each fragment.
+pub fn routes_of(alloc: Global, fragments: &[Fragment]) -> Result<Vec<Rows<Route>>, NoMemory>
+    ensures { IfOk result (λ routes. routes.items ≡ map (λ part. part.routes) fragments.now) }
+{
+    let mut routes = Vec::with_capacity(alloc, fragments.len())?;
+    'parts: for part in fragments {
+        routes.push(routes_of_part(alloc, part)?)?;
+    }
+    Ok(routes)
+}
+
+/// The routes of each owned place.
+fn routes_of_part(alloc: Global, part: &Fragment) -> Result<Rows<Route>, NoMemory>
+    ensures { IfOk result (λ rows. rows ≡ part.now.routes) }
+{
+    let owned = part.owned().len();
+    let mut rows = Rows::with_capacity(alloc, owned, owned)?;
+    'owned: for place in 0..owned {
+        rows.push_row(part.routes(place as u32))?;
+    }
+    Ok(rows)
+}
+
+/// The start values of a fragment's places.
+fn starts(alloc: Global, job: &Job, part: &Fragment) -> Result<Vec<u64>, NoMemory>
+    requires job { IsJob job.now }
+    requires vertices { HasVertices job.now part.now }
+    ensures { IfOk result (λ starts. starts.items ≡ starts_of (equations_of job.now) (part.now.owned ++ part.now.mirrors)) }
+{
+    let places = part.owned().len() + part.mirrors().len();
+    let mut starts = Vec::with_capacity(alloc, places)?;
+    'places: for vertex in part.owned().iter().chain(part.mirrors().iter()) {
+        starts.push(job.start_of(*vertex))?;
+    }
+    Ok(starts)
+}
+
+/// The desk of a fresh worker.
+fn desk_of(
+    alloc: Global,
+    job: &Job,
+    part: &Fragment,
+    order: Order,
+    counters: u32,
+) -> Result<Desk, NoMemory>
+    requires job { IsJob job.now }
+    requires vertices { HasVertices job.now part.now }
+    ensures { IfOk result (λ desk. desk ≡ new_desk job.now order counters part.now) }
+{
+    let starts = starts(alloc, job, part)?;
+    let mirrors = part.mirrors().len() as u32;
+    let mut local = Local::new(alloc, part, counters)?;
+    local.load(&starts);
+    let hand = Hand::new(alloc, order, mirrors)?;
+    let buffer = Buffer::new(alloc, order, mirrors)?;
+    Ok(Desk {
+        seat: Seat::Here {
+            fresh: true,
+            local,
+            hand,
+        },
+        stretched: false,
+        buffer,
+    })
+}
+
+/// The desks of fresh workers, one for each fragment.
+pub fn desks_of(
+    alloc: Global,
+    job: &Job,
+    fragments: &[Fragment],
+    order: Order,
+    counters: u32,
+) -> Result<Vec<Desk>, NoMemory>
+    requires job { IsJob job.now }
+    requires vertices { All (HasVertices job.now) fragments.now }
+    ensures { IfOk result (λ desks. desks.items ≡ map (new_desk job.now order counters) fragments.now) }
+{
+    let mut desks = Vec::with_capacity(alloc, fragments.len())?;
+    'parts: for part in fragments {
+        desks.push(desk_of(alloc, job, part, order, counters)?)?;
+    }
+    Ok(desks)
+}

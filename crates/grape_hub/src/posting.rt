@@ -1,0 +1,43 @@
+ghost use Rattle.std.specs.Prelude.{◌≡◌, ◌≤◌, length};
+ghost use Rattle.grape_hub.specs.Posting.{posted, LeadToDesks, ChangesAreValues, HaveRoom};
+
+use crate::desk::Desk;
+use graph_core::{Route, Rows};
+use pie_core::Local;
+
+/// Sends each owned value that changed along its routes: to each worker that gets some, in one batch. Takes no memory.
+pub fn post_changes(routes: &Rows<Route>, local: &Local, desks: &mut [Desk])
+    requires rows { length routes.now ≡ length local.now.before }
+    requires lead { LeadToDesks routes.now desks.old }
+    requires values { ChangesAreValues local.now.before local.now.values }
+    requires room { HaveRoom desks.old }
+    requires few { length desks.old ≤ 64 }
+    ensures { desks.new ≡ posted local.now.before local.now.values routes.now desks.old }
+{
+    let before = local.before();
+    let values = local.values();
+    let mut begun = [false; 64];
+    'owned: for place in 0..before.len() {
+        if before[place] != values[place] {
+            post_along(routes.row(place), values[place], desks, &mut begun);
+        }
+    }
+}
+
+/// Posts a value along its routes, and begins a batch for each worker for which none was begun.
+fn post_along(row: &[Route], value: u64, desks: &mut [Desk], begun: &mut [bool; 64]) {
+    'row: for route in row {
+        post(*route, value, desks, begun);
+    }
+}
+
+/// Posts a value to a mirror, in the batch that was begun for its worker, or in a new one.
+fn post(route: Route, value: u64, desks: &mut [Desk], begun: &mut [bool; 64]) {
+    let worker = route.fragment as usize;
+    let buffer = &mut desks[worker].buffer;
+    if !begun[worker] {
+        buffer.begin_batch(false);
+        begun[worker] = true;
+    }
+    buffer.post(false, route.mirror, value);
+}

@@ -1,0 +1,35 @@
+use grape_event::Event;
+use message_buffer::Hand;
+use pie_core::Local;
+
+/// What a lane evaluates: the values of a worker, and the mail that it took.
+///
+/// Where it is fresh the lane runs PEval, and where the hand isn't empty IncEval. It gives the Work back to the hub.
+#[derive(Drop)]
+pub struct Work {
+    /// The number of the worker, which is that of its fragment.
+    pub worker: u32,
+    /// The place of its Take in the journal.
+    pub place: u64,
+    /// Whether this is the first Take of the worker.
+    pub fresh: bool,
+    /// The values of the worker at the Take.
+    pub local: Local,
+    /// For each mirror the meet of what came since the Take before.
+    pub hand: Hand,
+}
+
+/// What a lane is to do next.
+#[derive(Drop)]
+pub enum Next {
+    /// A Take was appended, and this is to be evaluated.
+    Took(Work),
+    /// Another event was appended.
+    Did(Event),
+    /// No event that concerns this lane is admitted, but for Gives.
+    Idle,
+    /// The journal has ended.
+    Ended,
+    /// There is no memory for the event. Nothing has changed.
+    NoMemory,
+}
