@@ -27,7 +27,7 @@ Unchanged old new = (new.job ≡ old.job) × (new.counters ≡ old.counters) × 
 -- The Work that the lane has out: it has the values and the hand of its Take, and the fragment's sizes.
 pub record IsWork (h : HubValues) (lane : ℕ) (fresh : Bool) (work : Work) : Type 0 where
   pub out : IsOut (state_of h) lane work.worker work.place
-  pub fresh : work.fresh ≡ fresh
+  pub is_first : work.fresh ≡ fresh
   pub values : work.local.values ≡ (worker_at (workers_of h) work.worker).values
   pub hand : work.hand ≡ record { order = (machine h).equations.order; values = hand_of (worker_at (workers_of h) work.worker) }
   pub before : work.local.before ≡ take (length (piece_of_worker h work.worker).owned) (worker_at (workers_of h) work.worker).values

@@ -29,8 +29,8 @@ buffer_of sys piece w =
 -- the sizes of a fragment: a value for each place, and for each owned one a value before and its counters
 pub record HasSizes (piece : Piece) (counters : ℕ) (before counts : List ℕ) (hand : List ℕ) : Type 0 where
   pub owned : length before ≡ length piece.owned
-  pub counts : length counts ≡ length piece.owned * counters
-  pub hand : length hand ≡ length piece.mirrors
+  pub room : length counts ≡ length piece.owned * counters
+  pub mirrors : length hand ≡ length piece.mirrors
 
 -- The seat of worker i: its values are here, or it is out with the lane that took it.
 abbrev pub SeatFits : System → State → ℕ → ℕ → Seat → Type 0
@@ -53,10 +53,10 @@ pub record DeskFits (sys : System) (s : State) (counters i : ℕ) (d : Desk) : T
 
 -- The hub's tables show the state: the routes of each piece, a desk for each worker, and whose turn it is.
 pub record TablesFit (sys : System) (s : State) (counters : ℕ) (routes : List (List (List Route))) (desks : List Desk) (turn : ℕ) : Type 0 where
-  pub routes : routes ≡ map (λ piece. piece.routes) sys.pieces
+  pub are_routes : routes ≡ map (λ piece. piece.routes) sys.pieces
   pub count : length desks ≡ worker_count s
-  pub turn : turn ≡ first_in_turn (worker_count s) s.past
-  pub desks : (i : ℕ) (d : Desk) → slice_get desks i ≡ Some d → DeskFits sys s counters i d
+  pub is_turn : turn ≡ first_in_turn (worker_count s) s.past
+  pub fit : (i : ℕ) (d : Desk) → slice_get desks i ≡ Some d → DeskFits sys s counters i d
 
 -- ---- what may be done at a desk
 

@@ -39,10 +39,10 @@ take_place i (_ ∷ past) = take_place i past
 
 -- the worker is out with this lane, since the Take at this place
 pub record IsOut (s : State) (lane worker place : ℕ) : Type 0 where
-  pub worker : worker < worker_count s
+  pub in_range : worker < worker_count s
   pub running : is_running (worker_at s.workers worker) ≡ true
-  pub lane : lane_of worker s.past ≡ Some lane
-  pub place : take_place worker s.past ≡ Some place
+  pub by_lane : lane_of worker s.past ≡ Some lane
+  pub since : take_place worker s.past ≡ Some place
 
 -- how many workers are out
 abbrev pub works_out : BaseState → ℕ

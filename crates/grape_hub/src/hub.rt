@@ -195,14 +195,18 @@ impl<P: Pie> Hub<P> {
         ensures values { HaveValues self result.0.items }
         ensures journal { result.1 ≡ self.journal }
     {
-        let mut locals = self.locals;
-        'desks: for desk in self.desks {
-            match desk.seat {
-                Seat::Here { local, .. } => locals.push_reserved(local),
-                Seat::Out { .. } => unreachable!(),
+        let Hub {
+            desks,
+            journal,
+            mut locals,
+            ..
+        } = self;
+        'desks: for desk in desks {
+            if let Seat::Here { local, .. } = desk.seat {
+                locals.push_reserved(local);
             }
         }
-        (locals, self.journal)
+        (locals, journal)
     }
 }
 
