@@ -1,5 +1,5 @@
 -- Under the policy AP, without snapshots, and after Takes, Gives and Stretches without turns alone, most conditions of the table hold by themselves.
-use Rattle.std.proofs.Common.{◌≡◌, ℕ, zero, suc, ◌+◌, ◌<◌, ◌≤◌, Bool, true, false, not, ◌&&◌, ◌||◌, nat_lt, nat_le, cond, IsTrue, refl, sym, ◌∙◌, ap, subst, arith, List, [], ◌∷◌, ◌++◌, length, reverse, Option, Some, None}
+use Rattle.std.proofs.Common.{◌≡◌, ℕ, zero, suc, ◌+◌, ◌<◌, ◌≤◌, Bool, true, false, not, ◌&&◌, ◌||◌, nat_lt, nat_le, cond, IsTrue, refl, sym, ◌∙◌, ap, subst, arith, List, [], ◌∷◌, ◌++◌, length, slice_index_or, ◌^◌, ◌-◌, Option, Some, None}
 use Rattle.std.specs.List.{AllByRecursion}
 use Rattle.std.specs.Option.{is_some}
 use Rattle.std.proofs.lemmas.Bool.{lt-ltb, le-leb, not_from_false, and_left, false≢true}
@@ -8,7 +8,7 @@ use Rattle.graph_core.specs.declared.settings.Policy.TheVariants.{Ap}
 use Rattle.grape_event.specs.declared.event.Event.{Event}
 use Rattle.grape_event.specs.declared.event.Event.TheVariants.{Take, Give, Stretch, Hold, Flag, Ask, Ack, Nack, Begin, Mark, Seal, Kept, End, Stop}
 use Rattle.base_machine.specs.Machine.{System, BaseState, Worker, worker_at, is_fresh, rests, batch_waits, batches_waiting}
-use Rattle.legal_journal.specs.Past.{has_ended, recording_is_open, stretch_of}
+use Rattle.legal_journal.specs.Past.{has_ended, recording_is_open, stretch_of, takes_since_begin, last_epoch}
 use Rattle.legal_journal.specs.Delays.{is_fresh_enough, delay_is_over, stretch_is_over, has_enough, stretch_turns}
 use Rattle.legal_journal.specs.Legal.{State, worker_count, has_work_out, snapshot_is_due, is_unmarked, tagged_batch_waits, rests_with_mail, is_stretched, stretch_from, may_take, may_stretch, is_worker, is_admitted, row_admits}
 use Rattle.grape_hub.specs.States.{is_built}
@@ -72,7 +72,7 @@ module _ (sys : System) (s : State) (p : IsPlain sys s) where
   fresh_enough i = ap (λ q. is_fresh_enough q s.workers s.rounds i) p.policy
 
   not_due : not (snapshot_is_due sys s) ≡ true
-  not_due = not_from_false (snapshot_is_due sys s) (ap (λ n. nat_lt 0 n && nat_le n _ && _) p.snapshot)
+  not_due = not_from_false (snapshot_is_due sys s) (ap (λ n. nat_lt 0 n && nat_le n (takes_since_begin s.past) && nat_lt (last_epoch s.start.epoch s.past) (2 ^ 62 - 1)) p.snapshot)
 
   not_unmarked : (i : ℕ) → not (is_unmarked s i && tagged_batch_waits s i) ≡ true
   not_unmarked i = not_from_false (is_unmarked s i && tagged_batch_waits s i) (and_left (is_unmarked s i) (tagged_batch_waits s i) (and_left _ _ p.closed))
@@ -93,4 +93,14 @@ module _ (sys : System) (s : State) (p : IsPlain sys s) where
 
   -- a Stretch has no turns of the formula
   pub no_stretch : (i : ℕ) → stretch_from sys s i ≡ 0
-  no_stretch i = ap (λ q. stretch_turns q (batches_waiting (worker_at s.workers i)) _) p.policy
+  no_stretch i = ap (λ q. stretch_turns q (batches_waiting (worker_at s.workers i)) (slice_index_or s.arrivals i [])) p.policy
+
+  -- a Stretch without turns may come where a worker rests with mail and has none since its last Take
+  pub stretch_row : (i : ℕ) → may_stretch sys s i (stretch_from sys s i) ≡ (rests_with_mail s i && not (is_stretched s i))
+  stretch_row i = both_bounds (rests_with_mail s i) (not (is_stretched s i)) (nat_le (stretch_from sys s i) (stretch_from sys s i)) (nat_le (stretch_from sys s i) (stretch_from sys s i + 64))
+      (le-leb (stretch_from sys s i) (stretch_from sys s i) (omega arith)) (le-leb (stretch_from sys s i) (stretch_from sys s i + 64) (omega arith))
+    where
+      both_bounds : (a b c d : Bool) → c ≡ true → d ≡ true → (a && b && c && d) ≡ (a && b)
+      both_bounds true true c d hc hd = subst (λ x. (x && d) ≡ true) (sym hc) hd
+      both_bounds true false c d hc hd = refl
+      both_bounds false b c d hc hd = refl
