@@ -1,3 +1,4 @@
 pub mod Mail
 pub mod Plain
 pub mod Scan
+pub mod Steps
