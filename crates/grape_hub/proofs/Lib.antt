@@ -2,3 +2,4 @@ pub mod Mail
 pub mod Plain
 pub mod Scan
 pub mod Steps
+pub mod Hubs
