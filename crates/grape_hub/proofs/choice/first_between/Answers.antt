@@ -1,6 +1,5 @@
-use Rattle.std.proofs.Common.{◌≡◌, ◌-◌, refl, sym, ◌∙◌, ap, subst, arith, slice_index_or, Some, None, true, false}
-use Rattle.std.specs.List.{range_with_len}
-use Rattle.grape_hub.specs.Desks.{holds_at, first_where}
+use Rattle.std.proofs.Common.{◌≡◌, refl, sym, ◌∙◌, ap, arith, true, false}
+use Rattle.grape_hub.specs.Desks.{holds_at}
 use Rattle.grape_hub.specs.Kinds.{test_of}
 use Rattle.grape_hub.proofs.Searching.{holds-here, none_left, found_here, not_here}
 use Rattle.grape_hub.proofs.choice.first_between.Goals as goal

@@ -1,4 +1,4 @@
-use Rattle.std.proofs.Common.{◌≡◌, ◌-◌, sym, ◌∙◌, ap, arith, length, None, Some}
+use Rattle.std.proofs.Common.{◌≡◌, ◌-◌, sym, ◌∙◌, ap, arith, length}
 use Rattle.std.specs.List.{range_with_len}
 use Rattle.graph_core.specs.Fragments.{numbers_below}
 use Rattle.grape_hub.specs.Desks.{holds_at, first_where}
