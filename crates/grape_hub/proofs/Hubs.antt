@@ -4,13 +4,16 @@ use Rattle.std.specs.List.{AllByRecursion}
 use mathlib.Core.List.{reverse-cons}
 use Rattle.std.proofs.lemmas.List.Sums.{sum_by-cons, sum_by-set}
 use Rattle.std.proofs.lemmas.Bool.{and_parts}
+use Rattle.std.proofs.lemmas.List.{length-map}
+use Rattle.std.proofs.lemmas.List.FromFn.{length-range_with_len}
+use Rattle.graph_core.specs.Fragments.{numbers_below, piece_of}
 use Rattle.graph_core.specs.declared.job.Job.{Job}
 use Rattle.graph_core.specs.declared.fragment.Route.{Route}
 use Rattle.graph_core.specs.Graphs.{IsJob}
 use Rattle.grape_event.specs.declared.event.Event.{Event}
 use Rattle.grape_event.specs.declared.event.Event.TheVariants.{End}
 use Rattle.token_cut.specs.Parts.{SnapshotParts}
-use Rattle.base_machine.specs.Machine.{System, system_of, BaseState, Worker, worker_at, is_running, no_worker, fresh_snapshot}
+use Rattle.base_machine.specs.Machine.{System, system_of, BaseState, Worker, worker_at, is_running, no_worker, fresh_snapshot, fresh_part}
 use Rattle.base_machine.proofs.Posts.{all_append}
 use Rattle.legal_journal.specs.Legal.{State, start_state, state_at_end, state_after, worker_count, is_admitted, IsLegal}
 use Rattle.legal_journal.proofs.Walks.{kept_along, journals_grow}
@@ -44,6 +47,16 @@ counted_of h k =
     counted_here n (state_of h)
     (kept_along (machine h) (AreCounted n) (λ s e a c. event_counted n (machine h) s e (and_parts _ _ a).1 c) h.journal.events (start_state (beginning h)) k.legal (start_counted (beginning h)))
 
+-- as many workers as fragments
+pub workers_are : (h : HubValues) → IsHub h → worker_count (state_of h) ≡ h.job.settings.fragments
+workers_are h k =
+    let n = length (beginning h).parts in
+    (kept_along (machine h) (AreCounted n) (λ s e a c. event_counted n (machine h) s e (and_parts _ _ a).1 c) h.journal.events (start_state (beginning h)) k.legal (start_counted (beginning h))).count
+    ∙ (length-map (machine h).pieces (fresh_part (machine h).equations) ∙ (length-map (numbers_below h.job.settings.fragments) (piece_of h.job) ∙ length-range_with_len 0 h.job.settings.fragments))
+
+pub few_workers : (h : HubValues) → IsHub h → worker_count (state_of h) ≤ 64
+few_workers h k = let w = workers_are h k in let f = k.job.settings.fragments.1 in omega (arith, w, f)
+
 -- ---- one event more
 
 module _ (old new : HubValues) (e : Event) (more : Appended old e new) where
@@ -57,14 +70,14 @@ module _ (old new : HubValues) (e : Event) (more : Appended old e new) where
 
   pub hub_grown : IsHub old → IsTrue (is_admitted (machine old) (state_of old) e) → is_built e ≡ true → works_out (workers_of new) ≤ new.journal.spare → IsHub new
   hub_grown k a b room = record {
-      job = subst IsJob (sym more.0) k.job;
-      policy = ap (λ (job : Job). job.settings.policy) more.0 ∙ k.policy;
-      snapshot = ap (λ (job : Job). job.settings.snapshot) more.0 ∙ k.snapshot;
-      legal = subst (λ (job : Job). IsLegal (system_of job) (fresh_snapshot (system_of job)) new.journal.events) (sym more.0)
-          (subst (IsLegal (machine old) (beginning old)) (sym more.2) ((journals_grow (machine old) (beginning old) old.journal.events e).2.1 (k.legal, a)));
-      built = subst (AllByRecursion (λ e. is_built e ≡ true)) (sym more.2) (all_append (λ e. is_built e ≡ true) old.journal.events (e ∷ []) k.built (b, tt));
-      room = room;
-    }
+    job = subst IsJob (sym more.0) k.job;
+    policy = ap (λ (job : Job). job.settings.policy) more.0 ∙ k.policy;
+    snapshot = ap (λ (job : Job). job.settings.snapshot) more.0 ∙ k.snapshot;
+    legal = subst (λ (job : Job). IsLegal (system_of job) (fresh_snapshot (system_of job)) new.journal.events) (sym more.0)
+        (subst (IsLegal (machine old) (beginning old)) (sym more.2) ((journals_grow (machine old) (beginning old) old.journal.events e).2.1 (k.legal, a)));
+    built = subst (AllByRecursion (λ e. is_built e ≡ true)) (sym more.2) (all_append (λ e. is_built e ≡ true) old.journal.events (e ∷ []) k.built (b, tt));
+    room = room;
+  }
 
 -- ---- how many are out
 

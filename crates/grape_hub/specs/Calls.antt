@@ -4,7 +4,7 @@ use Rattle.std.specs.List.{AllZip}
 use Rattle.graph_core.specs.Fragments.{fragment_of}
 use Rattle.graph_core.specs.Queries.{equations_of}
 use Rattle.grape_event.specs.declared.event.Event.{Event}
-use Rattle.grape_event.specs.declared.event.Event.TheVariants.{Take}
+use Rattle.grape_event.specs.declared.event.Event.TheVariants.{Take, Stretch}
 use Rattle.pie_core.specs.Locals.{LocalValues}
 use Rattle.pie_core.specs.Solutions.{IsReadyFor, OwnEquationsHold}
 use Rattle.base_machine.specs.Machine.{worker_at, is_fresh, hand_of, values_given}
@@ -42,6 +42,21 @@ Chooses old lane (Did e) new = (choice_of (machine old) (state_of old) lane ≡ 
 Chooses old lane Idle new = (choice_of (machine old) (state_of old) lane ≡ None) × (new ≡ old) × (has_ended (reverse old.journal.events) ≡ false)
 Chooses old lane Ended new = (new ≡ old) × (has_ended (reverse old.journal.events) ≡ true)
 Chooses old lane NoMemory new = Unchanged old new
+
+-- the same for the Take of this worker, and for its Stretch
+abbrev pub TakesWorker : HubValues → ℕ → ℕ → Next → HubValues → Type 0
+TakesWorker old worker lane (Took work) new = (work.worker ≡ worker) × Appended old (Take worker lane) new × IsWork new lane (is_fresh (worker_at (workers_of old) worker)) work
+TakesWorker old worker lane (Did e) new = ⊥
+TakesWorker old worker lane Idle new = ⊥
+TakesWorker old worker lane Ended new = ⊥
+TakesWorker old worker lane NoMemory new = Unchanged old new
+
+abbrev pub StretchesWorker : HubValues → ℕ → Next → HubValues → Type 0
+StretchesWorker old worker (Took work) new = ⊥
+StretchesWorker old worker (Did e) new = (e ≡ Stretch worker 0) × Appended old e new
+StretchesWorker old worker Idle new = ⊥
+StretchesWorker old worker Ended new = ⊥
+StretchesWorker old worker NoMemory new = Unchanged old new
 
 -- A Work may be evaluated: its values lie below the starts and, unless it is fresh, below their own equations.
 pub record IsReady (h : HubValues) (work : Work) : Type 0 where

@@ -1,11 +1,13 @@
 -- What the hub keeps of a worker, against the state after its journal.
-use Rattle.std.specs.Prelude.{◌≡◌, ℕ, zero, suc, ◌-◌, ◌*◌, ◌<◌, Bool, true, false, not, ◌&&◌, ◌||◌, nat_lt, List, [], ◌∷◌, ◌++◌, Option, Some, None, map, length, take, replicate, slice_get, if◌then◌else◌}
+use Rattle.std.specs.Prelude.{◌≡◌, ℕ, zero, suc, ◌-◌, ◌*◌, ◌<◌, Bool, true, false, not, ◌&&◌, ◌||◌, nat_lt, List, [], ◌∷◌, ◌++◌, Option, Some, None, ⊤, map, length, take, replicate, slice_get, if◌then◌else◌}
 use Rattle.std.specs.List.{range_with_len}
 use Rattle.value_order.specs.declared.TheConstants.{NOTHING}
 use Rattle.graph_core.specs.declared.fragment.Route.{Route}
 use Rattle.graph_core.specs.Fragments.{Piece, piece_at, numbers_below}
 use Rattle.message_buffer.specs.BufferValues.{BufferValues}
-use Rattle.message_buffer.specs.Buffers.{batches_in}
+use Rattle.message_buffer.specs.HandValues.{HandValues}
+use Rattle.message_buffer.specs.Buffers.{batches_in, all_waiting, emptied}
+use Rattle.pie_core.specs.Locals.{LocalValues}
 use Rattle.base_machine.specs.Machine.{System, Worker, worker_at, is_fresh, is_running, batches_waiting, met_posts, pending_posts}
 use Rattle.legal_journal.specs.Past.{lane_of, stretch_of}
 use Rattle.legal_journal.specs.Legal.{State, worker_count, is_stretched}
@@ -65,6 +67,27 @@ may_take_at d = elim d.seat [ Here fresh local hand ↦ fresh || (nat_lt 0 (batc
 
 abbrev pub may_stretch_at : Desk → Bool
 may_stretch_at d = elim d.seat [ Here fresh local hand ↦ not fresh && (nat_lt 0 (batches_in d.buffer) && not d.stretched) | Out lane place ↦ false ]
+
+abbrev pub IsHere : Seat → Type 0
+IsHere (Here fresh local hand) = ⊤
+IsHere (Out lane place) = ⊥
+
+-- the values that are here
+abbrev pub HasLocal : Seat → LocalValues → Type 0
+HasLocal (Here fresh local hand) values = values ≡ local
+HasLocal (Out lane place) values = ⊥
+
+-- the values are here, and the hand fits the buffer
+abbrev pub HandFits : Desk → Seat → Type 0
+HandFits d (Here fresh local hand) = (hand.order ≡ d.buffer.order) × (length hand.values ≡ length d.buffer.plain)
+HandFits d (Out lane place) = ⊥
+
+-- What a lane takes from a desk: whether the worker is fresh, its values, and a hand with all mail that waits; and what it leaves.
+abbrev pub TakesFrom : Desk → Seat → ℕ → ℕ → Bool × LocalValues × HandValues → Desk → Type 0
+TakesFrom old (Here fresh local hand) lane place taken new =
+    (taken.0 ≡ fresh) × (taken.1 ≡ local) × (taken.2 ≡ record { order = old.buffer.order; values = all_waiting old.buffer })
+    × (new ≡ record { seat = Out lane place; stretched = false; buffer = emptied old.buffer })
+TakesFrom old (Out from at) lane place taken new = ⊥
 
 -- the worker is out
 abbrev pub is_out : Desk → Bool

@@ -1,12 +1,13 @@
-ghost use Rattle.std.specs.Prelude.{◌≡◌, ◌<◌, ◌-◌, ◌+◌, false, count_by, IfOk};
+ghost use Rattle.std.specs.Prelude.{◌≡◌, ◌+◌, ◌<◌, ◌≤◌, true, false, nat_lt, if◌then◌else◌, count_by, IfOk};
 ghost use Rattle.graph_core.specs.declared.settings.Policy.TheVariants.{Ap};
 ghost use Rattle.graph_core.specs.Graphs.{IsJob};
 ghost use Rattle.graph_core.specs.Fragments.{fragments_of};
-ghost use Rattle.grape_event.specs.declared.event.Event.TheVariants.{Give};
+ghost use Rattle.grape_event.specs.declared.event.Event.TheVariants.{Take, Give, Stretch};
+ghost use Rattle.base_machine.specs.Machine.{worker_at, is_running};
 ghost use Rattle.grape_event.specs.Journals.{new_journal};
-ghost use Rattle.legal_journal.specs.Legal.{has_work_out};
-ghost use Rattle.grape_hub.specs.States.{machine, state_of, IsHub};
-ghost use Rattle.grape_hub.specs.Calls.{Appended, Chooses, ReadyWhereTook, MayGive, HaveValues};
+ghost use Rattle.legal_journal.specs.Legal.{has_work_out, is_admitted};
+ghost use Rattle.grape_hub.specs.States.{machine, state_of, workers_of, IsHub};
+ghost use Rattle.grape_hub.specs.Calls.{Appended, Chooses, TakesWorker, StretchesWorker, ReadyWhereTook, MayGive, HaveValues};
 ghost use Rattle.grape_hub.specs.Theorems.{IsCalm};
 ghost use Rattle.grape_hub.specs.Desks.{is_out};
 
@@ -21,7 +22,6 @@ use graph_core::{Fragment, Job, Route, Rows};
 use pie_core::{Local, Pie};
 use std::alloc::Global;
 use std::marker::Model;
-use std::mem::replace;
 
 /// The workers of a job, one for each fragment, with their values and mail, and the journal of what they did.
 ///
@@ -112,30 +112,22 @@ impl<P: Pie> Hub<P> {
         Next::Idle
     }
 
-    fn take(&mut self, worker: u32, lane: u32) -> Next {
+    /// Appends the Take of a worker that isn't out.
+    fn take(&mut self, worker: u32, lane: u32) -> Next
+        requires admitted { is_admitted (machine self.old) (state_of self.old) (Take worker lane) ≡ true }
+        requires idle { is_running (worker_at (workers_of self.old) worker) ≡ false }
+        ensures taken { TakesWorker self.old worker lane result self.new }
+        ensures hub { IsHub self.new }
+    {
+        let count = self.desks.len();
         let out = works_out(&self.desks);
         if self.journal.reserve(out + 2).is_err() {
             return Next::NoMemory;
         }
         let place = self.journal.len();
-        let desk = &mut self.desks[worker as usize];
-        let seat = replace(&mut desk.seat, Seat::Out { lane, place });
-        let Seat::Here {
-            fresh,
-            local,
-            mut hand,
-        } = seat
-        else {
-            unreachable!();
-        };
-        desk.buffer.take(&mut hand);
-        desk.stretched = false;
+        let (fresh, local, hand) = self.desks[worker as usize].take(lane, place);
         self.journal.push(Event::Take { worker, lane });
-        self.turn = if worker + 1 < self.desks.len() as u32 {
-            worker + 1
-        } else {
-            0
-        };
+        self.turn = following(worker, count);
         Next::Took(Work {
             worker,
             place,
@@ -145,7 +137,12 @@ impl<P: Pie> Hub<P> {
         })
     }
 
-    fn stretch(&mut self, worker: u32) -> Next {
+    /// Appends a Stretch of a worker, without turns.
+    fn stretch(&mut self, worker: u32) -> Next
+        requires admitted { is_admitted (machine self.old) (state_of self.old) (Stretch worker 0) ≡ true }
+        ensures stretched { StretchesWorker self.old worker result self.new }
+        ensures hub { IsHub self.new }
+    {
         let out = works_out(&self.desks);
         if self.journal.reserve(out + 1).is_err() {
             return Next::NoMemory;
@@ -202,9 +199,7 @@ impl<P: Pie> Hub<P> {
             ..
         } = self;
         'desks: for desk in desks {
-            if let Seat::Here { local, .. } = desk.seat {
-                locals.push_reserved(local);
-            }
+            locals.push_reserved(desk.into_local());
         }
         (locals, journal)
     }
@@ -216,9 +211,22 @@ fn works_out(desks: &[Desk]) -> u64
 {
     let mut count = 0;
     'desks: for desk in desks {
-        if let Seat::Out { .. } = &desk.seat {
+        if desk.is_out() {
             count += 1;
         }
     }
     count
+}
+
+/// The worker after this one, of so many, in turn.
+fn following(worker: u32, count: usize) -> u32
+    requires worker { worker < count }
+    requires few { count ≤ 64 }
+    ensures { result ≡ (if nat_lt (worker + 1) count then worker + 1 else 0) }
+{
+    if (worker as usize) + 1 < count {
+        worker + 1
+    } else {
+        0
+    }
 }
