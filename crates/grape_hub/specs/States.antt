@@ -50,11 +50,11 @@ works_out ws = count_by is_running ws
 
 -- ---- what every hub keeps
 
--- the kinds of events that a hub appends so far
+-- the events that a hub appends so far: its Stretches have no turns
 abbrev pub is_built : Event → Bool
 is_built (Take i k) = true
 is_built (Give i) = true
-is_built (Stretch i turns) = true
+is_built (Stretch i turns) = turns == 0
 is_built _ = false
 
 -- The job lies within the limits, its policy is AP and it asks for no snapshots. The journal is legal from the beginning, and has room for a Give of each worker that is out.
