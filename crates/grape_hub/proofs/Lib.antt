@@ -4,3 +4,6 @@ pub mod Scan
 pub mod Steps
 pub mod Hubs
 pub mod Mailing
+pub mod Searching
+pub mod Answering
+pub mod Idling

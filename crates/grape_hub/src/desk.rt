@@ -1,4 +1,5 @@
 ghost use Rattle.std.specs.Prelude.{◌≡◌};
+ghost use Rattle.grape_hub.specs.Desks.{is_out};
 
 use message_buffer::{Buffer, Hand};
 use pie_core::Local;
@@ -27,4 +28,16 @@ pub struct Desk {
     pub stretched: bool,
     /// The mail that waits.
     pub buffer: Buffer,
+}
+
+impl Desk {
+    /// Whether a lane has the worker.
+    pub fn is_out(&self) -> bool
+        ensures { result ≡ is_out self.now }
+    {
+        match &self.seat {
+            Seat::Here { .. } => false,
+            Seat::Out { .. } => true,
+        }
+    }
 }

@@ -216,7 +216,7 @@ fn works_out(desks: &[Desk]) -> u64
 {
     let mut count = 0;
     'desks: for desk in desks {
-        if let Seat::Out { .. } = &desk.seat {
+        if desk.is_out() {
             count += 1;
         }
     }
