@@ -7,3 +7,7 @@ pub mod Mailing
 pub mod Searching
 pub mod Answering
 pub mod Idling
+pub mod Receipts
+pub mod Waiting
+pub mod Given
+pub mod Gives
