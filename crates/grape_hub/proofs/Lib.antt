@@ -6,3 +6,10 @@ pub mod Results
 pub mod Hubs
 pub mod Searching
 pub mod Takings
+pub mod Mailing
+pub mod Answering
+pub mod Idling
+pub mod Receipts
+pub mod Waiting
+pub mod Given
+pub mod Gives

@@ -166,6 +166,9 @@ impl<P: Pie> Hub<P> {
             hand,
             ..
         } = work;
+        self.journal.push(Event::Give {
+            worker: worker as u32,
+        });
         post_changes(&self.routes[worker], &local, &mut self.desks);
         local.settle();
         self.desks[worker].seat = Seat::Here {
@@ -173,9 +176,6 @@ impl<P: Pie> Hub<P> {
             local,
             hand,
         };
-        self.journal.push(Event::Give {
-            worker: worker as u32,
-        });
     }
 
     /// The journal so far.
