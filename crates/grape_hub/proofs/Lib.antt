@@ -1,3 +1,4 @@
 pub mod Searching
 pub mod Answering
 pub mod Idling
+pub mod Ready
