@@ -2,3 +2,4 @@ pub mod Searching
 pub mod Answering
 pub mod Idling
 pub mod Ready
+pub mod Opening
