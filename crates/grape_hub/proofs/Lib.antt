@@ -3,3 +3,4 @@ pub mod Answering
 pub mod Idling
 pub mod Ready
 pub mod Opening
+pub mod First
