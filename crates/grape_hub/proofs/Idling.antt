@@ -108,7 +108,7 @@ turn_at P f n past h i l =
 
 -- ---- nobody is out
 
-fresh_or_rests : (w : Worker) → is_running w ≡ false → (is_fresh w ≡ true) ⊎ (rests w ≡ true)
+pub fresh_or_rests : (w : Worker) → is_running w ≡ false → (is_fresh w ≡ true) ⊎ (rests w ≡ true)
 fresh_or_rests w h =
     elim w.standing as (λ x. elim x as (λ _. Bool) [ Fresh ↦ false | Running hand ↦ true | Rest ↦ false ] ≡ false →
     (elim x as (λ _. Bool) [ Fresh ↦ true | Running hand ↦ false | Rest ↦ false ] ≡ true) ⊎ (elim x as (λ _. Bool) [ Fresh ↦ false | Running hand ↦ false | Rest ↦ true ] ≡ true)) [

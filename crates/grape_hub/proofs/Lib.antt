@@ -13,3 +13,6 @@ pub mod Receipts
 pub mod Waiting
 pub mod Given
 pub mod Gives
+pub mod Ready
+pub mod Opening
+pub mod First

@@ -1,8 +1,9 @@
-ghost use Rattle.std.specs.Prelude.{◌≡◌, ◌++◌, map, All, IfOk};
-ghost use Rattle.graph_core.specs.Graphs.{IsJob};
+ghost use Rattle.std.specs.Prelude.{◌≡◌, ◌<◌, ◌++◌, map, All, IfOk};
+ghost use Rattle.graph_core.specs.Graphs.{count_of, IsJob};
 ghost use Rattle.graph_core.specs.Queries.{equations_of};
+ghost use Rattle.graph_core.specs.Fragments.{fragments_of};
 ghost use Rattle.pie_core.specs.Solutions.{starts_of};
-ghost use Rattle.grape_hub.specs.Openings.{new_desk, HasVertices};
+ghost use Rattle.grape_hub.specs.Openings.{new_desk, HasFewOwned, IsPartOf};
 
 use crate::desk::{Desk, Seat};
 use grape_port::NoMemory;
@@ -14,6 +15,7 @@ use value_order::Order;
 
 /// The routes of each fragment.
 pub fn routes_of(alloc: Global, fragments: &[Fragment]) -> Result<Vec<Rows<Route>>, NoMemory>
+    requires { All HasFewOwned fragments.now }
     ensures { IfOk result (λ routes. routes.items ≡ map (λ part. part.routes) fragments.now) }
 {
     let mut routes = Vec::with_capacity(alloc, fragments.len())?;
@@ -25,6 +27,7 @@ pub fn routes_of(alloc: Global, fragments: &[Fragment]) -> Result<Vec<Rows<Route
 
 /// The routes of each owned place.
 fn routes_of_part(alloc: Global, part: &Fragment) -> Result<Rows<Route>, NoMemory>
+    requires { HasFewOwned part.now }
     ensures { IfOk result (λ rows. rows ≡ part.now.routes) }
 {
     let owned = part.owned().len();
@@ -35,17 +38,28 @@ fn routes_of_part(alloc: Global, part: &Fragment) -> Result<Rows<Route>, NoMemor
     Ok(rows)
 }
 
+/// Adds the start value of each vertex.
+fn push_starts(job: &Job, vertices: &[u32], starts: &mut Vec<u64>) -> Result<(), NoMemory>
+    requires job { IsJob job.now }
+    requires vertices { All (λ vertex. vertex < count_of job.now.graph) vertices.now }
+    ensures { IfOk result (λ ok. starts.new.items ≡ starts.old.items ++ starts_of (equations_of job.now) vertices.now) }
+{
+    'vertices: for vertex in vertices {
+        starts.push(job.start_of(*vertex))?;
+    }
+    Ok(())
+}
+
 /// The start values of a fragment's places.
 fn starts(alloc: Global, job: &Job, part: &Fragment) -> Result<Vec<u64>, NoMemory>
     requires job { IsJob job.now }
-    requires vertices { HasVertices job.now part.now }
+    requires part { IsPartOf job.now part.now }
     ensures { IfOk result (λ starts. starts.items ≡ starts_of (equations_of job.now) (part.now.owned ++ part.now.mirrors)) }
 {
     let places = part.owned().len() + part.mirrors().len();
     let mut starts = Vec::with_capacity(alloc, places)?;
-    'places: for vertex in part.owned().iter().chain(part.mirrors().iter()) {
-        starts.push(job.start_of(*vertex))?;
-    }
+    push_starts(job, part.owned(), &mut starts)?;
+    push_starts(job, part.mirrors(), &mut starts)?;
     Ok(starts)
 }
 
@@ -58,7 +72,7 @@ fn desk_of(
     counters: u32,
 ) -> Result<Desk, NoMemory>
     requires job { IsJob job.now }
-    requires vertices { HasVertices job.now part.now }
+    requires part { IsPartOf job.now part.now }
     ensures { IfOk result (λ desk. desk ≡ new_desk job.now order counters part.now) }
 {
     let starts = starts(alloc, job, part)?;
@@ -87,7 +101,7 @@ pub fn desks_of(
     counters: u32,
 ) -> Result<Vec<Desk>, NoMemory>
     requires job { IsJob job.now }
-    requires vertices { All (HasVertices job.now) fragments.now }
+    requires fragments { fragments.now ≡ fragments_of job.now }
     ensures { IfOk result (λ desks. desks.items ≡ map (new_desk job.now order counters) fragments.now) }
 {
     let mut desks = Vec::with_capacity(alloc, fragments.len())?;
