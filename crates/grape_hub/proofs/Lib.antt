@@ -16,3 +16,4 @@ pub mod Gives
 pub mod Ready
 pub mod Opening
 pub mod First
+pub mod Nexts

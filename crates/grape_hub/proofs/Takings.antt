@@ -25,7 +25,7 @@ use Rattle.grape_hub.specs.States.{machine, state_of, workers_of, piece_of_worke
 use Rattle.grape_hub.specs.Desks.{DeskFits, SeatFits, TablesFit, HasSizes, HandFits, TakesFrom, buffer_of}
 use Rattle.grape_hub.specs.Calls.{Appended, IsWork}
 use Rattle.grape_hub.proofs.Mail.{hand_is_pending}
-use Rattle.grape_hub.proofs.Steps.{take_fits, taken_desk, taker_is, hand_is, values_stay}
+use Rattle.grape_hub.proofs.Steps.{take_fits, stretch_fits, taken_desk, taker_is, hand_is, values_stay}
 use Rattle.grape_hub.proofs.Hubs.{plain_of, counted_of, past_of, same_machine, state_grown, hub_grown, out_set}
 
 -- a desk that an index found
@@ -147,3 +147,19 @@ taken_seat d lane place taken d' t = go d.seat t
     go : (st : Seat) → TakesFrom d st lane place taken d' → d' ≡ record { seat = Out lane place; stretched = false; buffer = emptied d.buffer }
     go (Here fresh local hand) t = t.3
     go (Out from since) t = absurd t
+
+-- ---- a Stretch
+
+module _ (old new : HubValues) (routes : List (List (List Route))) (desks : List Desk) (turn i : ℕ) (d : Desk) (kept : IsHub old) (fits : TablesFit (machine old) (state_of old) old.counters routes desks turn)
+  (here : slice_get desks i ≡ Some d) (more : Appended old (Stretch i 0) new) where
+  pub stretched_hub : IsTrue (is_admitted (machine old) (state_of old) (Stretch i 0)) → works_out (workers_of old) ≤ new.journal.spare → IsHub new
+  stretched_hub a room =
+      let g = ap (λ (t : State). works_out t.workers) (state_grown old new (Stretch i 0) more) in
+      hub_grown old new (Stretch i 0) more kept a refl (omega (arith, g, room))
+
+  pub stretched_tables : TablesFit (machine new) (state_of new) old.counters routes (slice_set desks i (record d { stretched = true })) turn
+  stretched_tables =
+      let t = stretch_fits (machine old) (state_of old) old.counters routes desks turn i d fits here in
+      let D = slice_set desks i (record d { stretched = true }) in
+      subst (λ (sys : System). TablesFit sys (state_of new) old.counters routes D turn) (sym (same_machine old new (Stretch i 0) more))
+      (subst (λ (s : State). TablesFit (machine old) s old.counters routes D turn) (sym (state_grown old new (Stretch i 0) more)) t)

@@ -27,9 +27,13 @@ pub invariant_of-self : goal.invariant_of-self
 invariant_of-self g c =
     let e : c.reserve.new.self ≡ c.self.inside.journal = at_err c.reserve.result (sym c.is_err.ensures.value ∙ c.if-is_err.true) c.reserve.ensures.no_memory in
     let h : JournalList → HubValues = λ j. record { job = c.self.inside.job; counters = g.P.Pie.counters_for c.self.inside.job; journal = j } in
-    let k = c.self.invariant in
-    (k.0, subst (λ (j : JournalList). IsHub (h j)) (sym e) k.1,
-      subst (λ (j : JournalList). TablesFit (machine (h j)) (state_of (h j)) (g.P.Pie.counters_for c.self.inside.job) c.self.inside.routes.items c.self.inside.desks.items c.self.inside.turn) (sym e) k.2, k.3, k.4)
+    let k = c.self.invariant in (
+      k.0,
+      subst (λ (j : JournalList). IsHub (h j)) (sym e) k.1,
+      subst (λ (j : JournalList). TablesFit (machine (h j)) (state_of (h j)) (g.P.Pie.counters_for c.self.inside.job) c.self.inside.routes.items c.self.inside.desks.items c.self.inside.turn) (sym e) k.2,
+      k.3,
+      k.4,
+    )
 
 -- src/hub.rt:128:36
 pub index_mut-requires : goal.index_mut-requires
@@ -89,12 +93,13 @@ invariant_of-self-2 g c =
     let long : c.len-count.result ≡ length c.self.inside.desks.items = omega (arith, e) in
     let seats = taken_seat c.index_mut.result.now c.args.lane c.len-place.result (c.take-fresh.result.0, c.take-fresh.result.1, c.take-fresh.result.2) c.take-fresh.new.self c.take-fresh.ensures in
     let t = taken_tables old new c.self.inside.routes.items c.self.inside.desks.items c.self.inside.turn c.args.worker c.args.lane c.index_mut.result.now c.self.invariant.1 c.self.invariant.2 here idle more c.len-place.result c.following-self-inside.result
-        (c.len-place.ensures ∙ ap (λ (q : List Event). length q) c.reserve.ensures.events) (c.following-self-inside.ensures ∙ ap (λ m. if nat_lt (c.args.worker + 1) m then c.args.worker + 1 else 0) long) in
-    (c.self.invariant.0,
+    (c.len-place.ensures ∙ ap (λ (q : List Event). length q) c.reserve.ensures.events) (c.following-self-inside.ensures ∙ ap (λ m. if nat_lt (c.args.worker + 1) m then c.args.worker + 1 else 0) long) in (
+      c.self.invariant.0,
       taken_hub old new c.self.inside.routes.items c.self.inside.desks.items c.self.inside.turn c.args.worker c.args.lane c.index_mut.result.now c.self.invariant.1 c.self.invariant.2 here idle more a (omega (arith, room, spare, out)),
       subst (λ (x : Desk). TablesFit (machine new) (state_of new) old.counters c.self.inside.routes.items (slice_set c.self.inside.desks.items c.args.worker x) c.following-self-inside.result) (sym seats) t,
       c.self.invariant.3,
-      (let m = length-set c.self.inside.desks.items c.args.worker c.take-fresh.new.self in let q = c.self.invariant.4 in omega (arith, m, q)))
+      (let m = length-set c.self.inside.desks.items c.args.worker c.take-fresh.new.self in let q = c.self.invariant.4 in omega (arith, m, q)),
+    )
 
 -- src/hub.rt:116:5
 pub returns-clause-taken : goal.returns-clause-taken
@@ -108,9 +113,9 @@ returns-clause-taken g c =
     let here = found_at c.self.inside.desks.items c.args.worker c.index_mut.result.now (omega (arith, l, n)) c.index_mut.ensures.value in
     let more : Appended old (Take c.args.worker c.args.lane) new = (refl, refl, c.push.ensures.events ∙ ap (λ (q : List Event). q ++ Take c.args.worker c.args.lane ∷ []) c.reserve.ensures.events) in
     let work = taken_work old new c.self.inside.routes.items c.self.inside.desks.items c.self.inside.turn c.args.worker c.args.lane c.index_mut.result.now c.self.invariant.1 c.self.invariant.2 here idle more c.len-place.result
-        (c.take-fresh.result.0, c.take-fresh.result.1, c.take-fresh.result.2) c.take-fresh.new.self (c.len-place.ensures ∙ ap (λ (q : List Event). length q) c.reserve.ensures.events) c.take-fresh.ensures in
+    (c.take-fresh.result.0, c.take-fresh.result.1, c.take-fresh.result.2) c.take-fresh.new.self (c.len-place.ensures ∙ ap (λ (q : List Event). length q) c.reserve.ensures.events) c.take-fresh.ensures in
     subst (λ (h : HubValues). TakesWorker h c.args.worker c.args.lane
-        (Took (record { worker = c.args.worker; place = c.len-place.result; fresh = c.take-fresh.result.0; local = c.take-fresh.result.1; hand = c.take-fresh.result.2 })) new) c.self.view_is
+    (Took (record { worker = c.args.worker; place = c.len-place.result; fresh = c.take-fresh.result.0; local = c.take-fresh.result.1; hand = c.take-fresh.result.2 })) new) c.self.view_is
     (refl, more, work)
 
 -- src/hub.rt:116:5
