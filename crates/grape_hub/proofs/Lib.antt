@@ -17,3 +17,4 @@ pub mod Ready
 pub mod Opening
 pub mod First
 pub mod Nexts
+pub mod Finished

@@ -82,10 +82,11 @@ module _ (h : HubValues) (routes : List (List (List Route))) (desks : List Desk)
         (sym (take_row (machine h) (state_of h) (plain_of h kept) i lane below free) ∙ row)
 
     pub take_chosen : (i : ℕ) → first_desk may_take_at desks turn ≡ Some i → (r : Next) (new : HubValues) → TakesWorker h i lane r new → Chooses h lane r new
-    take_chosen i f (Took work) new t =
-        (chooses_take (machine h) (state_of h) h.counters routes desks turn (plain_of h kept) fits lane i below free f ∙ ap (λ k. Some (Take k lane)) (sym t.0),
-          subst (λ k. Appended h (Take k lane) new) (sym t.0) t.1,
-          subst (λ k. IsWork new lane (is_fresh (worker_at (workers_of h) k)) work) (sym t.0) t.2)
+    take_chosen i f (Took work) new t = (
+      chooses_take (machine h) (state_of h) h.counters routes desks turn (plain_of h kept) fits lane i below free f ∙ ap (λ k. Some (Take k lane)) (sym t.0),
+      subst (λ k. Appended h (Take k lane) new) (sym t.0) t.1,
+      subst (λ k. IsWork new lane (is_fresh (worker_at (workers_of h) k)) work) (sym t.0) t.2,
+    )
     take_chosen i f (Did e) new t = absurd t
     take_chosen i f Idle new t = absurd t
     take_chosen i f Ended new t = absurd t

@@ -151,7 +151,7 @@ taken_seat d lane place taken d' t = go d.seat t
 -- ---- a Stretch
 
 module _ (old new : HubValues) (routes : List (List (List Route))) (desks : List Desk) (turn i : ℕ) (d : Desk) (kept : IsHub old) (fits : TablesFit (machine old) (state_of old) old.counters routes desks turn)
-  (here : slice_get desks i ≡ Some d) (more : Appended old (Stretch i 0) new) where
+    (here : slice_get desks i ≡ Some d) (more : Appended old (Stretch i 0) new) where
   pub stretched_hub : IsTrue (is_admitted (machine old) (state_of old) (Stretch i 0)) → works_out (workers_of old) ≤ new.journal.spare → IsHub new
   stretched_hub a room =
       let g = ap (λ (t : State). works_out t.workers) (state_grown old new (Stretch i 0) more) in

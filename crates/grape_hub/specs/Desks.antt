@@ -77,6 +77,17 @@ abbrev pub HasLocal : Seat → LocalValues → Type 0
 HasLocal (Here fresh local hand) values = values ≡ local
 HasLocal (Out lane place) values = ⊥
 
+-- all values are here
+abbrev pub AreHere : List Desk → Type 0
+AreHere [] = ⊤
+AreHere (d ∷ desks) = IsHere d.seat × AreHere desks
+
+abbrev pub HaveLocals : List Desk → List LocalValues → Type 0
+HaveLocals [] [] = ⊤
+HaveLocals [] (local ∷ locals) = ⊥
+HaveLocals (d ∷ desks) [] = ⊥
+HaveLocals (d ∷ desks) (local ∷ locals) = HasLocal d.seat local × HaveLocals desks locals
+
 -- the values are here, and the hand fits the buffer
 abbrev pub HandFits : Desk → Seat → Type 0
 HandFits d (Here fresh local hand) = (hand.order ≡ d.buffer.order) × (length hand.values ≡ length d.buffer.plain)

@@ -1,5 +1,6 @@
-ghost use Rattle.std.specs.Prelude.{◌≡◌};
-ghost use Rattle.grape_hub.specs.Desks.{HandFits, IsHere, HasLocal, TakesFrom, is_out};
+ghost use Rattle.std.specs.Prelude.{◌≡◌, ◌≤◌, [], length};
+ghost use Rattle.std.specs.Vec.{vec_capacity};
+ghost use Rattle.grape_hub.specs.Desks.{AreHere, HandFits, IsHere, HasLocal, HaveLocals, TakesFrom, is_out};
 
 use message_buffer::{Buffer, Hand};
 use pie_core::Local;
@@ -81,4 +82,18 @@ impl Desk {
             Seat::Out { .. } => unreachable!(),
         }
     }
+}
+
+/// The values of each worker, in order, in an empty list that has room for them. Nobody is out.
+pub fn into_locals(desks: Vec<Desk>, empty: Vec<Local>) -> Vec<Local>
+    requires here { AreHere desks.items }
+    requires empty { empty.items ≡ [] }
+    requires room { length desks.items ≤ vec_capacity empty }
+    ensures { HaveLocals desks.items result.items }
+{
+    let mut locals = empty;
+    'desks: for desk in desks {
+        locals.push_reserved(desk.into_local());
+    }
+    locals
 }

@@ -12,7 +12,7 @@ ghost use Rattle.grape_hub.specs.Theorems.{IsCalm};
 ghost use Rattle.grape_hub.specs.Desks.{is_out};
 
 use crate::choice::{Kind, first_in_turn};
-use crate::desk::{Desk, Seat};
+use crate::desk::{Desk, Seat, into_locals};
 use crate::open::{desks_of, routes_of};
 use crate::posting::post_changes;
 use crate::work::{Next, Work};
@@ -195,13 +195,10 @@ impl<P: Pie> Hub<P> {
         let Hub {
             desks,
             journal,
-            mut locals,
+            locals,
             ..
         } = self;
-        'desks: for desk in desks {
-            locals.push_reserved(desk.into_local());
-        }
-        (locals, journal)
+        (into_locals(desks, locals), journal)
     }
 }
 

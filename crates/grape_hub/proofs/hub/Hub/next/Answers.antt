@@ -112,7 +112,8 @@ returns-clause-chosen g c =
     let free = subst (λ (x : HubValues). has_work_out (state_of x) c.args.lane ≡ false) (sym c.self.view_is) c.requires.free in
     let none = ap (λ (ds : List Desk). first_desk may_take_at ds c.self.inside.turn) (sym c.deref.ensures.value) ∙ (sym c.first_in_turn.ensures ∙ c.in_default.is) in
     let none-2 = ap (λ (ds : List Desk). first_desk may_stretch_at ds c.self.inside.turn) (sym c.deref-2.ensures.value) ∙ (sym c.first_in_turn-2.ensures ∙ c.in_default-first_in_turn.is) in
-    let a = none_chosen h c.self.inside.routes.items c.self.inside.desks.items c.self.inside.turn c.self.invariant.1 c.self.invariant.2 c.args.lane below free none none-2 in
-    (subst (λ (x : HubValues). choice_of (machine x) (state_of x) c.args.lane ≡ None) c.self.view_is a,
+    let a = none_chosen h c.self.inside.routes.items c.self.inside.desks.items c.self.inside.turn c.self.invariant.1 c.self.invariant.2 c.args.lane below free none none-2 in (
+      subst (λ (x : HubValues). choice_of (machine x) (state_of x) c.args.lane ≡ None) c.self.view_is a,
       refl,
-      subst (λ (x : HubValues). has_ended (reverse x.journal.events) ≡ false) c.self.view_is (sym c.ended.ensures ∙ c.if-ended.false))
+      subst (λ (x : HubValues). has_ended (reverse x.journal.events) ≡ false) c.self.view_is (sym c.ended.ensures ∙ c.if-ended.false),
+    )

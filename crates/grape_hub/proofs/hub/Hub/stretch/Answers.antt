@@ -34,12 +34,13 @@ invariant_of-self-2 g c =
     let more : Appended old (Stretch c.args.worker 0) new = (refl, refl, c.push.ensures.events ∙ ap (λ (q : List Event). q ++ Stretch c.args.worker 0 ∷ []) c.reserve.ensures.events) in
     let room = at_ok c.reserve.result (sym c.is_err.ensures.value ∙ c.if-is_err.false) c.reserve.ensures.room in
     let spare = c.push.ensures.spare in
-    let out = c.works_out-out.ensures ∙ (ap {B = ℕ} (λ (q : List Desk). count_by is_out q) c.deref.ensures.value ∙ out_is (machine old) (state_of old) old.counters c.self.inside.routes.items c.self.inside.desks.items c.self.inside.turn c.self.invariant.2) in
-    (c.self.invariant.0,
+    let out = c.works_out-out.ensures ∙ (ap {B = ℕ} (λ (q : List Desk). count_by is_out q) c.deref.ensures.value ∙ out_is (machine old) (state_of old) old.counters c.self.inside.routes.items c.self.inside.desks.items c.self.inside.turn c.self.invariant.2) in (
+      c.self.invariant.0,
       stretched_hub old new c.self.inside.routes.items c.self.inside.desks.items c.self.inside.turn c.args.worker c.index_mut.result.now c.self.invariant.1 c.self.invariant.2 here more a (omega (arith, room, spare, out)),
       stretched_tables old new c.self.inside.routes.items c.self.inside.desks.items c.self.inside.turn c.args.worker c.index_mut.result.now c.self.invariant.1 c.self.invariant.2 here more,
       c.self.invariant.3,
-      (let m = length-set c.self.inside.desks.items c.args.worker (record { seat = c.index_mut.result.now.seat; stretched = true; buffer = c.index_mut.result.now.buffer }) in let q = c.self.invariant.4 in omega (arith, m, q)))
+      (let m = length-set c.self.inside.desks.items c.args.worker (record { seat = c.index_mut.result.now.seat; stretched = true; buffer = c.index_mut.result.now.buffer }) in let q = c.self.invariant.4 in omega (arith, m, q)),
+    )
 
 -- src/hub.rt:142:5
 pub returns-clause-hub : goal.returns-clause-hub
