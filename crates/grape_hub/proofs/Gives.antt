@@ -1,5 +1,5 @@
 -- A hub that gets a Work back.
-use Rattle.std.proofs.Common.{◌≡◌, ℕ, zero, suc, ◌+◌, ◌-◌, ◌^◌, ◌<◌, ◌≤◌, Bool, true, false, not, ◌&&◌, ◌==◌, nat_lt, if◌then◌else◌, IsTrue, refl, sym, ◌∙◌, ap, subst, arith, List, [], ◌∷◌, ◌++◌, length, length-append, length-set, map, take, drop, reverse, replicate, slice_get, slice_set, slice_index, slice_index_or, sum_by, Option, Some, None}
+use Rattle.std.proofs.Common.{◌≡◌, ℕ, zero, suc, ◌+◌, ◌^◌, ◌<◌, ◌≤◌, false, not, ◌&&◌, if◌then◌else◌, IsTrue, refl, sym, ◌∙◌, ap, subst, arith, List, [], ◌∷◌, ◌++◌, length, length-append, length-set, map, take, drop, replicate, slice_get, slice_set, slice_index_or, sum_by, Some}
 use Rattle.std.proofs.lemmas.Bool.{and_from, not_from_false, lt-ltb, eq-eqb}
 use Rattle.std.proofs.lemmas.List.{length-map, get_or-map, length-reverse, append-nil, take_all}
 use Rattle.std.proofs.lemmas.List.Sums.{sum_by-cons}
@@ -14,13 +14,11 @@ use Rattle.grape_event.specs.declared.event.Event.{Event}
 use Rattle.grape_event.specs.declared.event.Event.TheVariants.{Give}
 use Rattle.pie_core.specs.Locals.{LocalValues}
 use Rattle.pie_core.specs.LocalCalls.{settled}
-use Rattle.base_machine.specs.Machine.{System, BaseState, BaseGive, Worker, Batch, no_worker, worker_at, worker_of, is_running, batches_waiting, posts_from, fresh_part, base_after, base_state_of}
-use Rattle.base_machine.specs.Theorems.{IsSound}
+use Rattle.base_machine.specs.Machine.{System, Worker, Batch, no_worker, worker_at, worker_of, batches_waiting, posts_from, fresh_part, base_state_of}
 use Rattle.base_machine.specs.Fitness.{IsFit}
 use Rattle.legal_journal.specs.Past.{has_ended}
-use Rattle.legal_journal.specs.Legal.{State, start_state, worker_count, state_after, is_admitted, is_worker, may_give}
+use Rattle.legal_journal.specs.Legal.{State, start_state, worker_count, is_admitted, is_worker, may_give}
 use Rattle.legal_journal.proofs.Walks.{kept_along}
-use Rattle.legal_journal.proofs.Journals.{AreCounted}
 use Rattle.grape_hub.specs.declared.desk.Desk.{Desk}
 use Rattle.grape_hub.specs.declared.desk.Seat.TheVariants.{Here}
 use Rattle.grape_hub.specs.declared.work.Work.{Work}
@@ -29,12 +27,11 @@ use Rattle.grape_hub.specs.States.{machine, beginning, state_of, workers_of, wor
 use Rattle.grape_hub.specs.Desks.{TablesFit}
 use Rattle.grape_hub.specs.Posting.{posted, LeadToDesks, ChangesAreValues, HaveRoom}
 use Rattle.grape_hub.specs.Calls.{Appended, MayGive}
-use Rattle.grape_hub.proofs.Plain.{IsPlain}
 use Rattle.grape_hub.proofs.Hubs.{past_of, plain_of, counted_of, same_machine, state_grown, hub_grown}
 use Rattle.grape_hub.proofs.Answering.{sound, piece_count, fit}
 use Rattle.grape_hub.proofs.Waiting.{FewWait, few_kept, one_back}
 use Rattle.grape_hub.proofs.Given
-use Rattle.grape_hub.proofs.Given.{posted_length}
+use Rattle.grape_hub.proofs.Given.{CanGive, posted_length}
 
 -- ---- no more batches wait than there are events
 
@@ -79,7 +76,10 @@ written_whole n xs ys e f = ap (λ l. take n (xs ++ l)) (no_rest xs ys e) ∙ (a
 
 -- ---- the Give of a Work
 
-module _ (h : HubValues) (hub : IsHub h) (routes : List (List (List Route))) (desks : List Desk) (turn : ℕ) (fits : TablesFit (machine h) (state_of h) h.counters routes desks turn) (lane : ℕ) (work : Work) (may : MayGive h lane work) where
+pub may_here : {h now : HubValues} {lane : ℕ} {work : Work} → h ≡ now → MayGive now lane work → MayGive h lane work
+may_here {lane = lane} {work = work} e may = subst (λ (h : HubValues). MayGive h lane work) (sym e) may
+
+module _ {h : HubValues} (hub : IsHub h) {routes : List (List (List Route))} {desks : List Desk} {turn : ℕ} (fits : TablesFit (machine h) (state_of h) h.counters routes desks turn) {lane : ℕ} {work : Work} (may : MayGive h lane work) where
   abbrev s : State
   s = state_of h
 
@@ -92,6 +92,21 @@ module _ (h : HubValues) (hub : IsHub h) (routes : List (List (List Route))) (de
   fit_now : IsFit (machine h) best.0 (workers_of h)
   fit_now = fit h best.0 hub best.1
 
+  can : CanGive (machine h) best.0 s h.counters routes desks turn i work.local work.hand
+  can =
+      record {
+        sound = sound h hub;
+        greatest = best.1;
+        fit = fit_now;
+        counted = counted_of h hub;
+        fits = fits;
+        in_range = may.out.in_range;
+        values = may.values;
+        before = may.before;
+        order = may.order;
+        sizes = may.sizes;
+      }
+
   pub one_spare : 1 ≤ h.journal.spare
   one_spare = let a = one_back (machine h) s.workers i may.out.in_range may.out.running in let b = hub.room in omega (arith, a, b)
 
@@ -102,19 +117,19 @@ module _ (h : HubValues) (hub : IsHub h) (routes : List (List (List Route))) (de
   desk_within = let a = fits.count in let b = may.out.in_range in omega (arith, a, b)
 
   pub routes_within : i < length routes
-  routes_within = Given.routes_within (machine h) best.0 (sound h hub) best.1 s fit_now (counted_of h hub) h.counters routes desks turn fits i may.out.in_range work.local work.hand may.values may.before may.order may.sizes
+  routes_within = Given.routes_within can
 
   pub routes_here : (d : List (List Route)) → slice_index_or routes i d ≡ (piece_at (machine h).pieces i).routes
-  routes_here = Given.routes_here (machine h) best.0 (sound h hub) best.1 s fit_now (counted_of h hub) h.counters routes desks turn fits i may.out.in_range work.local work.hand may.values may.before may.order may.sizes
+  routes_here = Given.routes_here can
 
   pub rows_fit : length (piece_at (machine h).pieces i).routes ≡ length work.local.before
-  rows_fit = Given.rows_fit (machine h) best.0 (sound h hub) best.1 s fit_now (counted_of h hub) h.counters routes desks turn fits i may.out.in_range work.local work.hand may.values may.before may.order may.sizes
+  rows_fit = Given.rows_fit can
 
   pub lead_to_desks : LeadToDesks (piece_at (machine h).pieces i).routes desks
-  lead_to_desks = Given.lead_to_desks (machine h) best.0 (sound h hub) best.1 s fit_now (counted_of h hub) h.counters routes desks turn fits i may.out.in_range work.local work.hand may.values may.before may.order may.sizes
+  lead_to_desks = Given.lead_to_desks can
 
   pub changes_are_values : ChangesAreValues work.local.before work.local.values
-  changes_are_values = Given.changes_are_values (machine h) best.0 (sound h hub) best.1 s fit_now (counted_of h hub) h.counters routes desks turn fits i may.out.in_range work.local work.hand may.values may.before may.order may.sizes
+  changes_are_values = Given.changes_are_values can
 
   pub have_room : (events : List Event) → events ≡ h.journal.events ++ Give i ∷ [] → length events < 2 ^ 64 → HaveRoom desks
   have_room events e l =
@@ -122,7 +137,7 @@ module _ (h : HubValues) (hub : IsHub h) (routes : List (List (List Route))) (de
       let b = length-append h.journal.events (Give i ∷ []) in
       let c = ap (λ (l : List Event). length l) (past_of h) in
       let d = length-reverse h.journal.events in
-      Given.have_room (machine h) best.0 (sound h hub) best.1 s fit_now (counted_of h hub) h.counters routes desks turn fits i may.out.in_range work.local work.hand may.values may.before may.order may.sizes
+      Given.have_room can
       (few_of h hub) (omega (arith, a, b, c, d, l))
 
   admitted : IsTrue (is_admitted (machine h) s (Give i))
@@ -140,7 +155,7 @@ module _ (h : HubValues) (hub : IsHub h) (routes : List (List (List Route))) (de
       TablesFit (machine new) (state_of new) h.counters routes (slice_set (posted work.local.before work.local.values (piece_at (machine h).pieces i).routes desks) i (record d { seat = Here false (settled work.local) work.hand })) turn
   tables_after new more d there =
       let after = slice_set (posted work.local.before work.local.values (piece_at (machine h).pieces i).routes desks) i (record d { seat = Here false (settled work.local) work.hand }) in
-      let now = Given.give_fits (machine h) best.0 (sound h hub) best.1 s fit_now (counted_of h hub) h.counters routes desks turn fits i may.out.in_range work.local work.hand may.values may.before may.order may.sizes d there in
+      let now = Given.give_fits can d there in
       subst (λ (sys : System). TablesFit sys (state_of new) h.counters routes after turn) (sym (same_machine h new (Give i) more))
       (subst (λ (t : State). TablesFit (machine h) t h.counters routes after turn) (sym (state_grown h new (Give i) more)) now)
 

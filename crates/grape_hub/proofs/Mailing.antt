@@ -1,18 +1,17 @@
 -- Desks while posts are sent to them.
-use Rattle.std.proofs.Common.{◌≡◌, ◌≢◌, ℕ, zero, suc, ◌+◌, ◌-◌, ◌<◌, ◌≤◌, ◌^◌, ◌⊎◌, inl, inr, Bool, true, false, not, ◌==◌, ◌||◌, cond, if◌then◌else◌, refl, sym, ◌∙◌, ap, subst, arith, add-one, List, [], ◌∷◌, ◌++◌, length, map, filter, take, append_assoc, length-set, slice_index, slice_index_or, slice_set, All, Some, None, slice_get, replicate}
+use Rattle.std.proofs.Common.{◌≡◌, ◌≢◌, ℕ, zero, suc, ◌+◌, ◌-◌, ◌<◌, ◌≤◌, ◌^◌, ◌⊎◌, inl, inr, Bool, true, false, not, ◌==◌, ◌||◌, if◌then◌else◌, refl, sym, ◌∙◌, ap, subst, arith, add-one, List, [], ◌∷◌, ◌++◌, length, map, filter, take, append_assoc, length-set, slice_index, slice_index_or, slice_set, All, Some, slice_get, replicate}
 use Rattle.std.proofs.lemmas.Bool.{cases_lt, eq-eqb, eqb-true, ne_eqb}
 use Rattle.std.proofs.lemmas.Option.{slice_get-get_or, slice_get_within, get_or_from_slice_get}
 use Rattle.std.proofs.lemmas.List.{append-nil, take_all, map-append, length-map, get_or-map, get_or-replicate}
-use Rattle.std.proofs.lemmas.List.Elements.{filter-append, All-get_or, All-from_get_or}
+use Rattle.std.proofs.lemmas.List.Elements.{filter-append, All-get_or}
 use Rattle.std.proofs.Math.Seq.{take-suc}
 use Rattle.value_order.specs.Order.{meet_of}
-use Rattle.value_order.specs.declared.TheConstants.{NOTHING}
 use Rattle.graph_core.specs.declared.fragment.Route.{Route}
 use Rattle.message_buffer.specs.BufferValues.{BufferValues}
 use Rattle.message_buffer.specs.Buffers.{with_batch, with_post, batches_in}
 use Rattle.base_machine.specs.Machine.{Post, posts_to, is_empty}
 use Rattle.grape_hub.specs.declared.desk.Desk.{Desk}
-use Rattle.grape_hub.specs.Posting.{with_posts, with_batch_of, posted_from, posted, mirror_counts, LeadToDesks, ChangesAreValues, HaveRoom, with_mail, mailed_from, mailed, AreBegun, posts_along, CanBegin}
+use Rattle.grape_hub.specs.Posting.{with_posts, with_batch_of, posted_from, posted, mirror_counts, LeadToDesks, HaveRoom, with_mail, mailed_from, mailed, AreBegun, posts_along, CanBegin}
 
 -- ---- one buffer
 

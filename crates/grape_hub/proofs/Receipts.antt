@@ -1,5 +1,5 @@
 -- What a batch leaves in the buffer of the worker that gets it.
-use Rattle.std.proofs.Common.{◌≡◌, ℕ, zero, suc, ◌+◌, ◌<◌, ◌≤◌, Bool, true, false, ◌==◌, cond, if◌then◌else◌, refl, sym, ◌∙◌, ap, arith, List, [], ◌∷◌, ◌++◌, length, length-append, map, filter, slice_index, slice_index_or, slice_set, sum_by, replicate, take}
+use Rattle.std.proofs.Common.{◌≡◌, ℕ, zero, suc, ◌+◌, ◌<◌, ◌≤◌, false, ◌==◌, cond, if◌then◌else◌, refl, sym, ◌∙◌, ap, arith, List, [], ◌∷◌, ◌++◌, length, length-append, map, filter, slice_index, slice_index_or, slice_set, replicate, take}
 use Rattle.std.proofs.lemmas.Bool.{eq-eqb, ne_eqb}
 use Rattle.std.proofs.lemmas.List.Sums.{sum_by-set}
 use Rattle.value_order.specs.declared.order.Order.{Order}
@@ -10,7 +10,7 @@ use Rattle.graph_core.specs.Fragments.{Piece}
 use Rattle.token_cut.specs.Parts.{PartValues}
 use Rattle.message_buffer.specs.BufferValues.{BufferValues}
 use Rattle.message_buffer.specs.Buffers.{with_batch, with_post}
-use Rattle.base_machine.specs.Machine.{System, Worker, Post, Batch, is_empty, posts_to, values_for, met_posts, pending_posts, batches_waiting, after_receiving, part_of}
+use Rattle.base_machine.specs.Machine.{System, Worker, Post, Batch, is_empty, posts_to, values_for, batches_waiting, after_receiving}
 use Rattle.legal_journal.specs.Legal.{mail_with}
 use Rattle.legal_journal.proofs.Recording.{part_received}
 use Rattle.grape_hub.specs.Desks.{buffer_of}

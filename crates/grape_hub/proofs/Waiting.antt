@@ -1,12 +1,11 @@
 -- How many batches wait, and how many workers are out, after a legal journal.
-use Rattle.std.proofs.Common.{◌≡◌, ◌≢◌, ℕ, zero, suc, ◌+◌, ◌<◌, ◌≤◌, Bool, true, false, ◌==◌, nat_lt, cond, if◌then◌else◌, IsTrue, refl, sym, ◌∙◌, ap, subst, arith, List, [], ◌∷◌, ◌++◌, length, length-append, filter, slice_index_or, slice_set, sum_by, count_by, replicate}
+use Rattle.std.proofs.Common.{◌≡◌, ◌≢◌, ℕ, zero, suc, ◌+◌, ◌<◌, ◌≤◌, Bool, true, false, ◌==◌, nat_lt, cond, if◌then◌else◌, refl, sym, ◌∙◌, ap, arith, List, [], ◌∷◌, ◌++◌, length, length-append, filter, slice_index_or, slice_set, sum_by}
 use Rattle.std.proofs.lemmas.Bool.{eq-eqb, ne_eqb}
-use Rattle.std.proofs.lemmas.List.{length-map, get_or-map}
-use Rattle.std.proofs.lemmas.List.Sums.{sum_by-cons, sum_by-set}
+use Rattle.std.proofs.lemmas.List.Sums.{sum_by-cons}
 use Rattle.grape_event.specs.declared.event.Event.{Event}
 use Rattle.grape_event.specs.declared.event.Event.TheVariants.{Take, Give, Stretch, Hold, Flag, Ask, Ack, Nack, Begin, Mark, Seal, Kept, End, Stop}
 use Rattle.graph_core.specs.Fragments.{piece_at, numbers_below}
-use Rattle.base_machine.specs.Machine.{System, BaseState, BaseEvent, BaseTake, BaseGive, Worker, Post, Batch, no_worker, worker_at, is_running, is_empty, batches_waiting, left_batches, after_taking, after_giving, after_receiving, each_worker_from, sent_to, base_after}
+use Rattle.base_machine.specs.Machine.{System, BaseState, BaseEvent, BaseTake, BaseGive, Worker, Post, Batch, worker_at, is_running, batches_waiting, left_batches, after_taking, after_giving, after_receiving, each_worker_from, sent_to, base_after}
 use Rattle.base_machine.proofs.Swapping.{made_of, after-length, after-at}
 use Rattle.legal_journal.specs.Past.{gives_of_each}
 use Rattle.legal_journal.specs.Legal.{State, worker_count, state_after, workers_after}

@@ -160,18 +160,17 @@ impl<P: Pie> Hub<P> {
         ensures given { Appended self.old (Give work.worker) self.new }
         ensures hub { IsHub self.new }
     {
-        let worker = work.worker as usize;
         let Work {
+            worker,
             mut local,
             hand,
             ..
         } = work;
-        self.journal.push(Event::Give {
-            worker: worker as u32,
-        });
-        post_changes(&self.routes[worker], &local, &mut self.desks);
+        let index = worker as usize;
+        self.journal.push(Event::Give { worker });
+        post_changes(&self.routes[index], &local, &mut self.desks);
         local.settle();
-        self.desks[worker].seat = Seat::Here {
+        self.desks[index].seat = Seat::Here {
             fresh: false,
             local,
             hand,
