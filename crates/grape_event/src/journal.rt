@@ -1,4 +1,4 @@
-ghost use Rattle.std.specs.Prelude.{◌≡◌, ◌+◌, ◌≤◌, [], ◌∷◌, ◌++◌, ◌↔◌, length, reverse, slice_get, IsNone, IsOk, OnOk, OnErr};
+ghost use Rattle.std.specs.Prelude.{◌≡◌, ◌+◌, ◌^◌, ◌<◌, ◌≤◌, [], ◌∷◌, ◌++◌, ◌↔◌, length, reverse, slice_get, IsNone, IsOk, OnOk, OnErr};
 ghost use Rattle.grape_event.specs.Journals.{new_journal, has_ended};
 
 use crate::event::Event;
@@ -58,6 +58,7 @@ impl Journal {
         requires { 1 ≤ self.old.spare }
         ensures events { self.new.events ≡ self.old.events ++ event ∷ [] }
         ensures spare { self.new.spare + 1 ≡ self.old.spare }
+        ensures short { length self.new.events < 2 ^ 64 }
     {
         self.events.push_reserved(event);
     }

@@ -1,6 +1,16 @@
+pub mod Mail
+pub mod Plain
+pub mod Scan
+pub mod Steps
+pub mod Hubs
+pub mod Mailing
 pub mod Searching
 pub mod Answering
 pub mod Idling
 pub mod Ready
 pub mod Opening
 pub mod First
+pub mod Receipts
+pub mod Waiting
+pub mod Given
+pub mod Gives

@@ -1,10 +1,10 @@
 -- What a Give leaves in the buffers.
-use Rattle.std.specs.Prelude.{◌≢◌, ℕ, ◌+◌, ◌<◌, ◌^◌, ◌-◌, false, List, [], ◌∷◌, map, length, All, slice_index}
+use Rattle.std.specs.Prelude.{◌≡◌, ◌≢◌, ℕ, ◌+◌, ◌<◌, ◌^◌, ◌-◌, Bool, true, false, not, ◌==◌, ◌||◌, List, [], ◌∷◌, map, filter, length, All, Some, slice_get, slice_index, slice_index_or}
 use Rattle.value_order.specs.declared.TheConstants.{NOTHING}
 use Rattle.graph_core.specs.declared.fragment.Route.{Route}
 use Rattle.message_buffer.specs.BufferValues.{BufferValues}
 use Rattle.message_buffer.specs.Buffers.{with_batch, with_post, batches_in}
-use Rattle.base_machine.specs.Machine.{Post, posts_to}
+use Rattle.base_machine.specs.Machine.{Post, posts_to, is_empty}
 use Rattle.grape_hub.specs.declared.desk.Desk.{Desk}
 
 -- all of these posts in the last batch
@@ -41,3 +41,31 @@ ChangesAreValues old new = (p : ℕ) → p < length old → slice_index old p �
 -- each desk can count one batch more
 abbrev pub HaveRoom : List Desk → Type 0
 HaveRoom desks = All (λ d. batches_in d.buffer < 2 ^ 64 - 1) desks
+
+-- ---- while the posts are sent
+
+-- posts for a worker, in the batch that was begun for it, or in a new one
+abbrev pub with_mail : Bool → List Post → BufferValues → BufferValues
+with_mail true posts b = with_posts posts b
+with_mail false posts b = with_batch_of posts b
+
+-- the desks, the first of which has this number, after each got its posts, where a batch was begun for some
+abbrev pub mailed_from : ℕ → List Bool → (ℕ → List Post) → List Desk → List Desk
+mailed_from k begun posts [] = []
+mailed_from k begun posts (d ∷ desks) =
+    record d { buffer = with_mail (slice_index_or begun k false) (posts k) d.buffer } ∷ mailed_from (k + 1) begun posts desks
+
+abbrev pub mailed : List Bool → (ℕ → List Post) → List Desk → List Desk
+mailed begun posts desks = mailed_from 0 begun posts desks
+
+-- a batch was begun for those for whom one was begun before, and for those that got posts since
+abbrev pub AreBegun : List Bool → (ℕ → List Post) → List Bool → Type 0
+AreBegun before posts begun = (k : ℕ) → k < 64 → slice_index_or begun k false ≡ (slice_index_or before k false || not (is_empty (posts k)))
+
+-- what a value posts to worker k along a row of routes
+abbrev pub posts_along : ℕ → ℕ → List Route → List Post
+posts_along k value row = map (λ t. record { mirror = t.mirror; value = value }) (filter (λ t. t.fragment == k) row)
+
+-- a desk for which no batch was begun can count one more
+abbrev pub CanBegin : List Bool → List Desk → Type 0
+CanBegin begun desks = (k : ℕ) (d : Desk) → slice_get desks k ≡ Some d → slice_index_or begun k false ≡ false → batches_in d.buffer < 2 ^ 64 - 1

@@ -169,6 +169,9 @@ impl<P: Pie> Hub<P> {
             hand,
             ..
         } = work;
+        self.journal.push(Event::Give {
+            worker: worker as u32,
+        });
         post_changes(&self.routes[worker], &local, &mut self.desks);
         local.settle();
         self.desks[worker].seat = Seat::Here {
@@ -176,9 +179,6 @@ impl<P: Pie> Hub<P> {
             local,
             hand,
         };
-        self.journal.push(Event::Give {
-            worker: worker as u32,
-        });
     }
 
     /// The journal so far.

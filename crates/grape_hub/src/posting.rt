@@ -1,5 +1,6 @@
-ghost use Rattle.std.specs.Prelude.{◌≡◌, ◌≤◌, length};
-ghost use Rattle.grape_hub.specs.Posting.{posted, LeadToDesks, ChangesAreValues, HaveRoom};
+ghost use Rattle.std.specs.Prelude.{◌≡◌, ◌≢◌, ◌<◌, ◌≤◌, [], ◌∷◌, length, slice_index, All};
+ghost use Rattle.value_order.specs.declared.TheConstants.{NOTHING};
+ghost use Rattle.grape_hub.specs.Posting.{posted, LeadToDesks, ChangesAreValues, HaveRoom, mirror_counts, mailed, posts_along, AreBegun, CanBegin};
 
 use crate::desk::Desk;
 use graph_core::{Route, Rows};
@@ -25,14 +26,28 @@ pub fn post_changes(routes: &Rows<Route>, local: &Local, desks: &mut [Desk])
 }
 
 /// Posts a value along its routes, and begins a batch for each worker for which none was begun.
-fn post_along(row: &[Route], value: u64, desks: &mut [Desk], begun: &mut [bool; 64]) {
+fn post_along(row: &[Route], value: u64, desks: &mut [Desk], begun: &mut [bool; 64])
+    requires lead { All (λ r. r.mirror < slice_index (mirror_counts desks.old) r.fragment) row.now }
+    requires value { value ≢ NOTHING }
+    requires room { CanBegin begun.old desks.old }
+    requires few { length desks.old ≤ 64 }
+    ensures desks { desks.new ≡ mailed begun.old (λ k. posts_along k value row.now) desks.old }
+    ensures begun { AreBegun begun.old (λ k. posts_along k value row.now) begun.new }
+{
     'row: for route in row {
         post(*route, value, desks, begun);
     }
 }
 
 /// Posts a value to a mirror, in the batch that was begun for its worker, or in a new one.
-fn post(route: Route, value: u64, desks: &mut [Desk], begun: &mut [bool; 64]) {
+fn post(route: Route, value: u64, desks: &mut [Desk], begun: &mut [bool; 64])
+    requires lead { route.mirror < slice_index (mirror_counts desks.old) route.fragment }
+    requires value { value ≢ NOTHING }
+    requires room { CanBegin begun.old desks.old }
+    requires few { length desks.old ≤ 64 }
+    ensures desks { desks.new ≡ mailed begun.old (λ k. posts_along k value (route ∷ [])) desks.old }
+    ensures begun { AreBegun begun.old (λ k. posts_along k value (route ∷ [])) begun.new }
+{
     let worker = route.fragment as usize;
     let buffer = &mut desks[worker].buffer;
     if !begun[worker] {

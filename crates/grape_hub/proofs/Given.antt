@@ -1,0 +1,285 @@
+-- A Give keeps the hub's tables fitting the state.
+use Rattle.std.proofs.Common.{◌≡◌, ◌≢◌, ℕ, zero, suc, ◌+◌, ◌-◌, ◌*◌, ◌^◌, ◌<◌, ◌≤◌, ◌⊎◌, inl, inr, Bool, true, false, ◌==◌, if◌then◌else◌, refl, sym, ◌∙◌, ap, subst, arith, List, [], ◌∷◌, length, length-append, length-take, length-set, map, take, slice_get, slice_set, slice_index, slice_index_or, Contains, All, Option, Some, None}
+use Rattle.std.specs.List.{AllByRecursion}
+use Rattle.std.proofs.lemmas.Bool.{eq-eqb, ne_eqb, cases_eq, cases_lt}
+use Rattle.std.proofs.lemmas.List.{length-map, get_or-map, get_or-take, get_or-set_same, get_or-set_other}
+use Rattle.std.proofs.lemmas.List.Elements.{Contains-get_or, All-from_get_or}
+use Rattle.std.proofs.lemmas.List.FromFn.{length-range_with_len}
+use Rattle.std.proofs.lemmas.Option.{slice_get-get_or, slice_get_within, get_or_from_slice_get}
+use Rattle.value_order.specs.declared.order.Order.{Order}
+use Rattle.value_order.specs.declared.TheConstants.{NOTHING}
+use Rattle.value_order.specs.Order.{Below, meet_all}
+use Rattle.value_order.proofs.Orders.{Below-antisym, Below-trans}
+use Rattle.graph_core.specs.declared.fragment.Route.{Route}
+use Rattle.graph_core.specs.Equations.{Assignment, IsGreatest}
+use Rattle.graph_core.specs.Fragments.{Piece, no_piece, piece_at, places, numbers_below, StandsAt, IsOwnedAt}
+use Rattle.graph_core.proofs.Cutting.{stands_left, stands_right}
+use Rattle.grape_event.specs.declared.event.Event.TheVariants.{Give}
+use Rattle.message_buffer.specs.BufferValues.{BufferValues}
+use Rattle.message_buffer.specs.Buffers.{batches_in}
+use Rattle.message_buffer.specs.HandValues.{HandValues}
+use Rattle.pie_core.specs.Locals.{LocalValues}
+use Rattle.pie_core.specs.LocalCalls.{settled}
+use Rattle.base_machine.specs.Machine.{System, BaseState, BaseGive, Standing, Worker, Post, worker_at, is_fresh, is_running, batches_waiting, pending_posts, values_for, met_posts, posts_to, values_given, sent_to, after_giving, after_receiving, base_after}
+use Rattle.base_machine.specs.Fitness.{IsFit}
+use Rattle.base_machine.specs.Theorems.{IsSound}
+use Rattle.base_machine.proofs.Giving.{ys-length, ys-below}
+use Rattle.base_machine.proofs.Receiving.{posts_from_changes}
+use Rattle.base_machine.proofs.Swapping.{after-length, after-at, as_before}
+use Rattle.legal_journal.specs.Legal.{State, worker_count, state_after}
+use Rattle.legal_journal.specs.Choices.{first_in_turn}
+use Rattle.legal_journal.proofs.Journals.{IsCounted, AreCounted}
+use Rattle.grape_hub.specs.declared.desk.Desk.{Desk}
+use Rattle.grape_hub.specs.declared.desk.Seat.{Seat}
+use Rattle.grape_hub.specs.declared.desk.Seat.TheVariants.{Here, Out}
+use Rattle.grape_hub.specs.Desks.{DeskFits, SeatFits, TablesFit, HasSizes, buffer_of}
+use Rattle.grape_hub.specs.Posting.{with_batch_of, posted_from, posted, mirror_counts, LeadToDesks, ChangesAreValues, HaveRoom}
+use Rattle.grape_hub.proofs.Mailing.{mirrors_there}
+use Rattle.grape_hub.proofs.Receipts.{received_buffer, posts_to-take}
+use Rattle.grape_hub.proofs.Waiting.{FewWait}
+
+-- ---- desks in their places
+
+desk_there : (desks : List Desk) (j : ℕ) → j < length desks → (d : Desk) × (slice_get desks j ≡ Some d)
+desk_there [] j h = absurd (omega (arith, h))
+desk_there (d ∷ desks) zero h = (d, refl)
+desk_there (d ∷ desks) (suc j) h = desk_there desks j (omega (arith, h))
+
+posted_at : (k : ℕ) (old new : List ℕ) (routes : List (List Route)) (desks : List Desk) (j : ℕ) (d : Desk) → slice_get (posted_from k old new routes desks) j ≡ Some d →
+    (e : Desk) × (slice_get desks j ≡ Some e) × (d ≡ record e { buffer = with_batch_of (posts_to (k + j) old new routes) e.buffer })
+posted_at k old new routes [] j d h = cc
+posted_at k old new routes (e ∷ desks) zero d h =
+    let first : record e { buffer = with_batch_of (posts_to k old new routes) e.buffer } ≡ d = cc in
+    let here : k ≡ k + 0 = omega arith in
+    (e, refl, sym first ∙ ap (λ n. record e { buffer = with_batch_of (posts_to n old new routes) e.buffer }) here)
+posted_at k old new routes (e ∷ desks) (suc j) d h =
+    let rest = posted_at (k + 1) old new routes desks j d h in
+    let there : k + 1 + j ≡ k + suc j = omega arith in
+    (rest.0, rest.1, rest.2 ∙ ap (λ n. record rest.0 { buffer = with_batch_of (posts_to n old new routes) rest.0.buffer }) there)
+
+pub posted_length : (k : ℕ) (old new : List ℕ) (routes : List (List Route)) (desks : List Desk) → length (posted_from k old new routes desks) ≡ length desks
+posted_length k old new routes [] = refl
+posted_length k old new routes (d ∷ desks) = let e = posted_length (k + 1) old new routes desks in omega (arith, e)
+
+put_here : (desks : List Desk) (i : ℕ) (d e : Desk) → slice_get (slice_set desks i d) i ≡ Some e → i < length desks → e ≡ d
+put_here desks i d e h l = sym (get_or_from_slice_get (slice_set desks i d) i e e h) ∙ get_or-set_same desks i d e l
+
+put_elsewhere : (desks : List Desk) (i j : ℕ) (d e : Desk) → j ≢ i → slice_get (slice_set desks i d) j ≡ Some e → slice_get desks j ≡ Some e
+put_elsewhere desks i j d e n h =
+    let l : j < length desks = (let a = slice_get_within (slice_set desks i d) j e h in let b = length-set desks i d in omega (arith, a, b)) in
+    slice_get-get_or desks j e l ∙ ap (λ x. Some x) (sym (get_or-set_other desks i j d e n) ∙ get_or_from_slice_get (slice_set desks i d) j e e h)
+
+none_of : (posts : List Post) → AllByRecursion (λ (p : Post). ⊥) posts → posts ≡ []
+none_of [] h = refl
+none_of (p ∷ posts) h = absurd h.0
+
+-- ---- the Give
+
+module _ (sys : System) (g : Assignment) (sound : IsSound sys) (greatest : IsGreatest sys.equations g) (s : State) (fit : IsFit sys g s.workers) (counted : AreCounted (worker_count s) s)
+    (counters : ℕ) (routes : List (List (List Route))) (desks : List Desk) (turn : ℕ) (fits : TablesFit sys s counters routes desks turn) (i : ℕ) (in_ws : i < worker_count s)
+    (local : LocalValues) (hand : HandValues) (values : local.values ≡ values_given sys (piece_at sys.pieces i) (worker_at s.workers i))
+    (before : local.before ≡ take (length (piece_at sys.pieces i).owned) (worker_at s.workers i).values) (order : hand.order ≡ sys.equations.order)
+    (sizes : HasSizes (piece_at sys.pieces i) counters local.before local.counters hand.values) where
+  abbrev from : Piece
+  from = piece_at sys.pieces i
+
+  abbrev giver : Worker
+  giver = worker_at s.workers i
+
+  abbrev next : State
+  next = state_after sys s (Give i)
+
+  abbrev sent : List Desk
+  sent = posted local.before local.values from.routes desks
+
+  in_pieces : i < length sys.pieces
+  in_pieces = let e = fit.workers in let h = in_ws in omega (arith, e, h)
+
+  pub routes_within : i < length routes
+  routes_within = let e = ap (λ (l : List (List (List Route))). length l) fits.are_routes in let l = length-map sys.pieces (λ (piece : Piece). piece.routes) in let h = in_pieces in omega (arith, e, l, h)
+
+  pub routes_here : (d : List (List Route)) → slice_index_or routes i d ≡ from.routes
+  routes_here d = ap (λ l. slice_index_or l i d) fits.are_routes ∙ get_or-map {X = Piece} {Y = List (List Route)} (λ piece. piece.routes) sys.pieces i no_piece d in_pieces
+
+  route_count : length from.routes ≡ length from.owned
+  route_count = sound.cut.routes_len i in_pieces
+
+  pub rows_fit : length from.routes ≡ length local.before
+  rows_fit = route_count ∙ sym sizes.owned
+
+  own_place : (p : ℕ) → p < length from.routes → IsOwnedAt sys.pieces i p (slice_index from.owned p)
+  own_place p h = (in_pieces, ((let e = route_count in omega (arith, e, h)), refl))
+
+  -- a route of an owned place leads to a mirror of its vertex
+  leads : (p : ℕ) (t : Route) → p < length from.routes → Contains (slice_index_or from.routes p []) t → (t.fragment < length sys.pieces) × StandsAt (piece_at sys.pieces t.fragment).mirrors t.mirror (slice_index from.owned p)
+  leads p t h c = (sound.cut.routes i p (slice_index from.owned p) t.fragment t.mirror (own_place p h)).0 c
+
+  mirrors_at : (j : ℕ) → j < length desks → slice_index (mirror_counts desks) j ≡ length (piece_at sys.pieces j).mirrors
+  mirrors_at j h =
+      let d = desk_there desks j h in
+      let n = length (piece_at sys.pieces j).mirrors in
+      let long : length (met_posts sys.equations.order n (pending_posts (worker_at s.workers j))) ≡ n =
+      length-map (numbers_below n) (λ m. meet_all sys.equations.order NOTHING (values_for m (pending_posts (worker_at s.workers j)))) ∙ length-range_with_len 0 n in
+      mirrors_there desks j d.0 h
+      ∙ (ap (λ (e : Desk). length e.buffer.plain) (get_or_from_slice_get desks j d.0 d.0 d.1)
+      ∙ (ap (λ (b : BufferValues). length b.plain) (fits.fit j d.0 d.1).buffer ∙ long))
+
+  abbrev to_desk : Route → Type 0
+  to_desk r = r.mirror < slice_index (mirror_counts desks) r.fragment
+
+  pub lead_to_desks : LeadToDesks from.routes desks
+  lead_to_desks =
+      All-from_get_or (λ row. All to_desk row) from.routes []
+      (λ p h. All-from_get_or to_desk (slice_index_or from.routes p []) (record { fragment = 0; mirror = 0 })
+      (λ q l. one p h (slice_index_or (slice_index_or from.routes p []) q (record { fragment = 0; mirror = 0 })) (Contains-get_or (slice_index_or from.routes p []) q (record { fragment = 0; mirror = 0 }) l)))
+    where
+      one : (p : ℕ) → p < length from.routes → (t : Route) → Contains (slice_index_or from.routes p []) t → t.mirror < slice_index (mirror_counts desks) t.fragment
+      one p h t c =
+          let there = leads p t h c in
+          let a = there.0 in
+          let b = there.1.0 in
+          let e = fit.workers in
+          let f = fits.count in
+          let m = mirrors_at t.fragment (omega (arith, a, e, f)) in
+          omega (arith, b, m)
+
+  -- ---- what was sent
+
+  old_place : (p : ℕ) → p < length local.before → slice_index local.before p ≡ slice_index giver.values p
+  old_place p h = ap (λ l. slice_index l p) before ∙ get_or-take (length from.owned) giver.values p 0 (let e = sizes.owned in omega (arith, e, h))
+
+  pub changes_are_values : ChangesAreValues local.before local.values
+  changes_are_values p h n z =
+      let o = sys.equations.order in
+      let e = sizes.owned in
+      let v = slice_index from.owned p in
+      let stands : StandsAt (places from) p v = stands_left from.owned from.mirrors p v (omega (arith, e, h), refl) in
+      let in_range : v < sys.equations.count = (let P : ℕ → Type 0 = λ n. n < sys.equations.count in subst P stands.1 (sound.cut.in_range i p in_pieces stands.0)) in
+      let new : slice_index local.values p ≡ slice_index (values_given sys from giver) p = ap (λ l. slice_index l p) values in
+      let low : Below o (slice_index local.values p) (slice_index giver.values p) = subst (λ x. Below o x (slice_index giver.values p)) (sym new) (ys-below sys g sound greatest i in_pieces s.workers giver (fit.each i in_ws) p v stands) in
+      let small : Below o (slice_index giver.values p) NOTHING = Below-trans o (slice_index giver.values p) (sys.equations.start v) NOTHING ((fit.each i in_ws).values p v stands).1 (sound.lawful.start_is_value v in_range) in
+      let high : Below o NOTHING (slice_index giver.values p) = subst (λ x. Below o x (slice_index giver.values p)) z low in
+      n (old_place p h ∙ (Below-antisym o (slice_index giver.values p) NOTHING small high ∙ sym z))
+
+  pub have_room : FewWait s → length s.past < 2 ^ 64 - 1 → HaveRoom desks
+  have_room few short =
+      All-from_get_or (λ (d : Desk). batches_in d.buffer < 2 ^ 64 - 1) desks (record { seat = Out 0 0; stretched = false; buffer = buffer_of sys no_piece giver })
+      (λ j h. one j h (slice_index_or desks j (record { seat = Out 0 0; stretched = false; buffer = buffer_of sys no_piece giver })) (slice_get-get_or desks j (record { seat = Out 0 0; stretched = false; buffer = buffer_of sys no_piece giver }) h))
+    where
+      one : (j : ℕ) → j < length desks → (d : Desk) → slice_get desks j ≡ Some d → batches_in d.buffer < 2 ^ 64 - 1
+      one j h d there =
+          let count = ap (λ (b : BufferValues). batches_in b) (fits.fit j d there).buffer in
+          let c = fits.count in
+          let waits = few j (omega (arith, h, c)) in
+          omega (arith, count, waits, short)
+
+  posts_are : (k : ℕ) → posts_to k local.before local.values from.routes ≡ sent_to sys from giver k
+  posts_are k =
+      ap (λ l. posts_to k l local.values from.routes) before
+      ∙ (ap (λ l. posts_to k (take (length from.owned) giver.values) l from.routes) values
+      ∙ posts_to-take k (length from.owned) giver.values (values_given sys from giver) from.routes (let e = route_count in omega (arith, e)))
+
+  -- it sends nothing to itself
+  none_to_itself : posts_to i local.before local.values from.routes ≡ []
+  none_to_itself =
+      none_of (posts_to i local.before local.values from.routes)
+      (posts_from_changes (λ (p : Post). ⊥) i local.before local.values from.routes
+      (λ p t l c e.
+      let P : ℕ → Type 0 = λ n. StandsAt (piece_at sys.pieces n).mirrors t.mirror (slice_index from.owned p) in
+      let mirror : StandsAt from.mirrors t.mirror (slice_index from.owned p) = subst P e (leads p t l c).1 in
+      let v = slice_index from.owned p in
+      let own = own_place p l in
+      let same = sound.cut.apart i p (length from.owned + t.mirror) v (stands_left from.owned from.mirrors p v own.1) (stands_right from.owned from.mirrors t.mirror v mirror) in
+      let h = own.1.0 in
+      omega (arith, same, h)))
+
+  -- ---- the workers after it
+
+  giver_is : worker_at next.workers i ≡ after_giving sys from giver
+  giver_is =
+      after-at sys s.workers (BaseGive i) i in_ws
+      ∙ ap (λ b. if b then after_giving sys from giver else after_receiving i (giver.gives + 1) (sent_to sys from giver i) giver) (eq-eqb i i refl)
+
+  receiver_is : (j : ℕ) → j < worker_count s → j ≢ i → worker_at next.workers j ≡ after_receiving i (giver.gives + 1) (sent_to sys from giver j) (worker_at s.workers j)
+  receiver_is j h n =
+      after-at sys s.workers (BaseGive i) j h
+      ∙ ap (λ b. if b then after_giving sys from (worker_at s.workers j) else after_receiving i (giver.gives + 1) (sent_to sys from giver j) (worker_at s.workers j)) (ne_eqb j i n)
+
+  given_desk : (d : Desk) → slice_get sent i ≡ Some d → DeskFits sys next counters i (record d { seat = Here false (settled local) hand })
+  given_desk d there =
+      let at = posted_at 0 local.before local.values from.routes desks i d there in
+      let e = at.0 in
+      let f = fits.fit i e at.1 in
+      let z : 0 + i ≡ i = omega arith in
+      let desk : d ≡ e = at.2 ∙ ap (λ l. record e { buffer = with_batch_of l e.buffer }) (ap (λ n. posts_to n local.before local.values from.routes) z ∙ none_to_itself) in
+      let long : length local.before ≡ length (take (length from.owned) local.values) =
+      (let a = sizes.owned in let b = length-take (length from.owned) local.values in let c = ap (λ (l : List ℕ). length l) values in
+      let d = ys-length sys g sound greatest i in_pieces s.workers giver (fit.each i in_ws) in let k = (fit.each i in_ws).shape.values in let m = length-append from.owned from.mirrors in omega (arith, a, b, c, d, k, m)) in
+      let now : take (length local.before) local.values ≡ take (length from.owned) local.values = ap (λ n. take n local.values) sizes.owned in
+      record {
+        seat = (
+          ap (λ (w : Worker). is_running w) giver_is,
+          sym (ap (λ (w : Worker). is_fresh w) giver_is),
+          values ∙ sym (ap (λ (w : Worker). w.values) giver_is),
+          now ∙ (ap (λ l. take (length from.owned) l) values ∙ sym (ap (λ (w : Worker). take (length from.owned) w.values) giver_is)),
+          order,
+          record { owned = ap (λ (l : List ℕ). length l) now ∙ (sym long ∙ sizes.owned); room = sizes.room; mirrors = sizes.mirrors },
+        );
+        stretched = ap (λ (x : Desk). x.stretched) desk ∙ f.stretched;
+        no_turns = λ turns place h. let k = f.no_turns turns place h in let p = k.1 in (k.0, omega (arith, p));
+        buffer = ap (λ (x : Desk). x.buffer) desk ∙ (f.buffer ∙ sym (ap (λ (w : Worker). buffer_of sys from w) giver_is));
+      }
+
+  other_desk : (j : ℕ) (d : Desk) → j ≢ i → slice_get sent j ≡ Some d → DeskFits sys next counters j d
+  other_desk j d n there =
+      let at = posted_at 0 local.before local.values from.routes desks j d there in
+      let e = at.0 in
+      let f = fits.fit j e at.1 in
+      let z : 0 + j ≡ j = omega arith in
+      let desk : d ≡ record e { buffer = with_batch_of (sent_to sys from giver j) e.buffer } = at.2 ∙ ap (λ l. record e { buffer = with_batch_of l e.buffer }) (ap (λ n. posts_to n local.before local.values from.routes) z ∙ posts_are j) in
+      let c = fits.count in
+      let l = slice_get_within desks j e at.1 in
+      let h : j < worker_count s = omega (arith, c, l) in
+      let same = as_before sys s.workers (BaseGive i) j h n in
+      let w = worker_at s.workers j in
+      let queue : i < length w.mail = (let m = (counted.mail j h).senders in let q = in_ws in omega (arith, m, q)) in
+      let mail =
+      ap (λ (b : BufferValues). with_batch_of (sent_to sys from giver j) b) f.buffer
+      ∙ (received_buffer sys (piece_at sys.pieces j) i (giver.gives + 1) (sent_to sys from giver j) w queue ∙ sym (ap (λ (x : Worker). buffer_of sys (piece_at sys.pieces j) x) (receiver_is j h n))) in
+      subst (DeskFits sys next counters j) (sym desk)
+      (record {
+        seat = still e.seat same.standing same.values f.seat;
+        stretched = f.stretched;
+        no_turns = λ turns place k. let q = f.no_turns turns place k in let p = q.1 in (q.0, omega (arith, p));
+        buffer = mail;
+      })
+    where
+      still : (seat : Seat) → (worker_at next.workers j).standing ≡ (worker_at s.workers j).standing → (worker_at next.workers j).values ≡ (worker_at s.workers j).values →
+          SeatFits sys s counters j seat → SeatFits sys next counters j seat
+      still (Here fresh here hand) a b k = (
+        ap (λ (x : Standing). is_running (record (worker_at s.workers j) { standing = x })) a ∙ k.0,
+        k.1 ∙ sym (ap (λ (x : Standing). is_fresh (record (worker_at s.workers j) { standing = x })) a),
+        k.2 ∙ sym b,
+        k.3 ∙ sym (ap (λ l. take (length (piece_at sys.pieces j).owned) l) b),
+        k.4,
+        k.5,
+      )
+      still (Out lane place) a b k = (ap (λ (x : Standing). is_running (record (worker_at s.workers j) { standing = x })) a ∙ k.0, k.1, k.2)
+
+  pub give_fits : (d : Desk) → slice_get sent i ≡ Some d → TablesFit sys next counters routes (slice_set sent i (record d { seat = Here false (settled local) hand })) turn
+  give_fits d there =
+      let long = after-length sys s.workers (BaseGive i) in
+      let sent_long = posted_length 0 local.before local.values from.routes desks in
+      let new : Desk = record d { seat = Here false (settled local) hand } in
+      record {
+        are_routes = fits.are_routes;
+        count = length-set sent i new ∙ (sent_long ∙ (fits.count ∙ sym long));
+        is_turn = fits.is_turn ∙ sym (ap (λ n. first_in_turn n s.past) long);
+        fit = λ j e h. elim (cases_eq j i) [
+          | inl k ↦
+              let P : ℕ → Type 0 = λ q. DeskFits sys next counters q e in
+              let put = put_here sent i new e (subst (λ q. slice_get (slice_set sent i new) q ≡ Some e) k h) (slice_get_within sent i d there) in
+              subst P (sym k) (subst (DeskFits sys next counters i) (sym put) (given_desk d there))
+          | inr n ↦ other_desk j e n (put_elsewhere sent i j new e n h)
+        ];
+      }

@@ -1,0 +1,96 @@
+-- What every hub keeps, and how it grows by an event.
+use Rattle.std.proofs.Common.{◌≡◌, ◌≢◌, ℕ, zero, suc, ◌+◌, ◌<◌, ◌≤◌, Bool, true, false, not, ◌&&◌, cond, IsTrue, refl, sym, ◌∙◌, ap, subst, arith, List, [], ◌∷◌, ◌++◌, length, reverse, slice_get, slice_set, slice_index_or, count_by, sum_by, Option, Some, None}
+use Rattle.std.specs.List.{AllByRecursion}
+use mathlib.Core.List.{reverse-cons}
+use Rattle.std.proofs.lemmas.List.Sums.{sum_by-cons, sum_by-set}
+use Rattle.std.proofs.lemmas.Bool.{and_parts}
+use Rattle.graph_core.specs.declared.job.Job.{Job}
+use Rattle.graph_core.specs.declared.fragment.Route.{Route}
+use Rattle.graph_core.specs.Graphs.{IsJob}
+use Rattle.grape_event.specs.declared.event.Event.{Event}
+use Rattle.grape_event.specs.declared.event.Event.TheVariants.{End}
+use Rattle.token_cut.specs.Parts.{SnapshotParts}
+use Rattle.base_machine.specs.Machine.{System, system_of, BaseState, Worker, worker_at, is_running, no_worker, fresh_snapshot}
+use Rattle.base_machine.proofs.Posts.{all_append}
+use Rattle.legal_journal.specs.Legal.{State, start_state, state_at_end, state_after, worker_count, is_admitted, IsLegal}
+use Rattle.legal_journal.proofs.Walks.{kept_along, journals_grow}
+use Rattle.legal_journal.proofs.Journals.{AreCounted, event_counted, start_counted, counted_here}
+use Rattle.grape_hub.specs.declared.desk.Desk.{Desk}
+use Rattle.grape_hub.specs.declared.desk.Seat.{Seat}
+use Rattle.grape_hub.specs.declared.desk.Seat.TheVariants.{Here, Out}
+use Rattle.grape_hub.specs.HubValues.{HubValues}
+use Rattle.grape_hub.specs.States.{machine, beginning, state_of, workers_of, is_built, works_out, IsHub}
+use Rattle.grape_hub.specs.Desks.{DeskFits, SeatFits, TablesFit, is_out}
+use Rattle.grape_hub.specs.Calls.{Appended}
+use Rattle.grape_hub.proofs.Plain.{IsPlain, never_open, never_ended}
+
+-- ---- what holds of the state
+
+all_reversed : (P : Event → Type 0) (es : List Event) → AllByRecursion P es → AllByRecursion P (reverse es)
+all_reversed P [] h = tt
+all_reversed P (e ∷ es) h = subst (AllByRecursion P) (sym (reverse-cons e es)) (all_append P (reverse es) (e ∷ []) (all_reversed P es h.1) (h.0, tt))
+
+pub past_of : (h : HubValues) → (state_of h).past ≡ reverse h.journal.events
+past_of h = (journals_grow (machine h) (beginning h) h.journal.events End).0
+
+pub plain_of : (h : HubValues) → IsHub h → IsPlain (machine h) (state_of h)
+plain_of h k =
+    let built = subst (AllByRecursion (λ e. is_built e ≡ true)) (sym (past_of h)) (all_reversed (λ e. is_built e ≡ true) h.journal.events k.built) in
+    record { policy = k.policy; snapshot = k.snapshot; closed = never_open (state_of h).past built; going = never_ended (state_of h).past built }
+
+pub counted_of : (h : HubValues) → IsHub h → AreCounted (worker_count (state_of h)) (state_of h)
+counted_of h k =
+    let n = length (beginning h).parts in
+    counted_here n (state_of h)
+    (kept_along (machine h) (AreCounted n) (λ s e a c. event_counted n (machine h) s e (and_parts _ _ a).1 c) h.journal.events (start_state (beginning h)) k.legal (start_counted (beginning h)))
+
+-- ---- one event more
+
+module _ (old new : HubValues) (e : Event) (more : Appended old e new) where
+  pub same_machine : machine new ≡ machine old
+  same_machine = ap (λ (job : Job). system_of job) more.0
+
+  pub state_grown : state_of new ≡ state_after (machine old) (state_of old) e
+  state_grown =
+      ap (λ (job : Job). state_at_end (system_of job) (fresh_snapshot (system_of job)) new.journal.events) more.0
+      ∙ (ap (λ l. state_at_end (machine old) (beginning old) l) more.2 ∙ (journals_grow (machine old) (beginning old) old.journal.events e).1)
+
+  pub hub_grown : IsHub old → IsTrue (is_admitted (machine old) (state_of old) e) → is_built e ≡ true → works_out (workers_of new) ≤ new.journal.spare → IsHub new
+  hub_grown k a b room = record {
+    job = subst IsJob (sym more.0) k.job;
+    policy = ap (λ (job : Job). job.settings.policy) more.0 ∙ k.policy;
+    snapshot = ap (λ (job : Job). job.settings.snapshot) more.0 ∙ k.snapshot;
+    legal = subst (λ (job : Job). IsLegal (system_of job) (fresh_snapshot (system_of job)) new.journal.events) (sym more.0)
+        (subst (IsLegal (machine old) (beginning old)) (sym more.2) ((journals_grow (machine old) (beginning old) old.journal.events e).2.1 (k.legal, a)));
+    built = subst (AllByRecursion (λ e. is_built e ≡ true)) (sym more.2) (all_append (λ e. is_built e ≡ true) old.journal.events (e ∷ []) k.built (b, tt));
+    room = room;
+  }
+
+-- ---- how many are out
+
+one : Worker → ℕ
+one w = cond (is_running w) 1 0
+
+pub out_set : (ws : BaseState) (i : ℕ) (w : Worker) → i < length ws → works_out (slice_set ws i w) + cond (is_running (worker_at ws i)) 1 0 ≡ works_out ws + cond (is_running w) 1 0
+out_set ws i w h = sum_by-set (λ (x : Worker). cond (is_running x) 1 0) ws i w no_worker h
+
+seat_out : (sys : System) (s : State) (counters i : ℕ) (d : Desk) → DeskFits sys s counters i d → is_out d ≡ is_running (worker_at s.workers i)
+seat_out sys s counters i d f = go d.seat f.seat
+  where
+    go : (seat : Seat) → SeatFits sys s counters i seat → elim seat [ Here fresh local hand ↦ false | Out lane place ↦ true ] ≡ is_running (worker_at s.workers i)
+    go (Here fresh local hand) k = sym k.0
+    go (Out lane place) k = sym k.0
+
+counts_same : (desks : List Desk) (ws : BaseState) → length desks ≡ length ws → ((i : ℕ) (d : Desk) → slice_get desks i ≡ Some d → is_out d ≡ is_running (slice_index_or ws i no_worker)) → count_by is_out desks ≡ count_by is_running ws
+counts_same [] [] e h = refl
+counts_same [] (w ∷ ws) e h = absurd (omega (arith, e))
+counts_same (d ∷ desks) [] e h = absurd (omega (arith, e))
+counts_same (d ∷ desks) (w ∷ ws) e h =
+    let a = sum_by-cons (λ (x : Desk). cond (is_out x) 1 0) d desks in
+    let b = sum_by-cons (λ (x : Worker). cond (is_running x) 1 0) w ws in
+    let c : cond (is_out d) 1 0 ≡ cond (is_running w) 1 0 = ap {B = ℕ} (λ t. cond t 1 0) (h 0 d refl) in
+    let r = counts_same desks ws (omega (arith, e)) (λ i x g. h (suc i) x g) in
+    a ∙ (ap (λ n. n + sum_by (λ (x : Desk). cond (is_out x) 1 0) desks) c ∙ (ap (λ n. cond (is_running w) 1 0 + n) r ∙ sym b))
+
+pub out_is : (sys : System) (s : State) (counters : ℕ) (routes : List (List (List Route))) (desks : List Desk) (turn : ℕ) → TablesFit sys s counters routes desks turn → count_by is_out desks ≡ works_out s.workers
+out_is sys s counters routes desks turn f = counts_same desks s.workers f.count (λ i d g. seat_out sys s counters i d (f.fit i d g))

@@ -1,0 +1,148 @@
+-- How many batches wait, and how many workers are out, after a legal journal.
+use Rattle.std.proofs.Common.{◌≡◌, ◌≢◌, ℕ, zero, suc, ◌+◌, ◌<◌, ◌≤◌, Bool, true, false, ◌==◌, nat_lt, cond, if◌then◌else◌, IsTrue, refl, sym, ◌∙◌, ap, subst, arith, List, [], ◌∷◌, ◌++◌, length, length-append, filter, slice_index_or, slice_set, sum_by, count_by, replicate}
+use Rattle.std.proofs.lemmas.Bool.{eq-eqb, ne_eqb}
+use Rattle.std.proofs.lemmas.List.{length-map, get_or-map}
+use Rattle.std.proofs.lemmas.List.Sums.{sum_by-cons, sum_by-set}
+use Rattle.grape_event.specs.declared.event.Event.{Event}
+use Rattle.grape_event.specs.declared.event.Event.TheVariants.{Take, Give, Stretch, Hold, Flag, Ask, Ack, Nack, Begin, Mark, Seal, Kept, End, Stop}
+use Rattle.graph_core.specs.Fragments.{piece_at, numbers_below}
+use Rattle.base_machine.specs.Machine.{System, BaseState, BaseEvent, BaseTake, BaseGive, Worker, Post, Batch, no_worker, worker_at, is_running, is_empty, batches_waiting, left_batches, after_taking, after_giving, after_receiving, each_worker_from, sent_to, base_after}
+use Rattle.base_machine.proofs.Swapping.{made_of, after-length, after-at}
+use Rattle.legal_journal.specs.Past.{gives_of_each}
+use Rattle.legal_journal.specs.Legal.{State, worker_count, state_after, workers_after}
+use Rattle.grape_hub.specs.States.{works_out}
+
+-- ---- batches
+
+filter-shorter : (test : Batch → Bool) (bs : List Batch) → length (filter test bs) ≤ length bs
+filter-shorter test [] = omega arith
+filter-shorter test (b ∷ bs) = go (test b) (filter-shorter test bs)
+  where
+    go : (t : Bool) → length (filter test bs) ≤ length bs → length (cond t (b ∷ filter test bs) (filter test bs)) ≤ suc (length bs)
+    go true h = omega (arith, h)
+    go false h = omega (arith, h)
+
+left-fewer : (upto : List ℕ) (mail : List (List Batch)) → sum_by {X = List Batch} (λ bs. length bs) (left_batches upto mail) ≤ sum_by {X = List Batch} (λ bs. length bs) mail
+left-fewer [] mail = omega arith
+left-fewer (u ∷ upto) [] = omega arith
+left-fewer (u ∷ upto) (bs ∷ mail) =
+    let a = sum_by-cons {X = List Batch} (λ l. length l) (filter (λ b. nat_lt u b.number) bs) (left_batches upto mail) in
+    let b = sum_by-cons {X = List Batch} (λ l. length l) bs mail in
+    let c = filter-shorter (λ b. nat_lt u b.number) bs in
+    let d = left-fewer upto mail in
+    omega (arith, a, b, c, d)
+
+set-more : (mail : List (List Batch)) (j : ℕ) (b : Batch) → sum_by {X = List Batch} (λ bs. length bs) (slice_set mail j (slice_index_or mail j [] ++ b ∷ [])) ≤ sum_by {X = List Batch} (λ bs. length bs) mail + 1
+set-more [] j b = omega arith
+set-more (bs ∷ mail) zero b =
+    let a = sum_by-cons {X = List Batch} (λ l. length l) (bs ++ b ∷ []) mail in
+    let c = sum_by-cons {X = List Batch} (λ l. length l) bs mail in
+    let d = length-append bs (b ∷ []) in
+    omega (arith, a, c, d)
+set-more (bs ∷ mail) (suc j) b =
+    let a = sum_by-cons {X = List Batch} (λ l. length l) bs (slice_set mail j (slice_index_or mail j [] ++ b ∷ [])) in
+    let c = sum_by-cons {X = List Batch} (λ l. length l) bs mail in
+    let d = set-more mail j b in
+    omega (arith, a, c, d)
+
+made-waits : (sys : System) (ws : BaseState) (e : BaseEvent) (k : ℕ) (w : Worker) → batches_waiting (made_of sys ws e k w) ≤ batches_waiting w + 1
+made-waits sys ws (BaseTake i upto) k w = go (k == i)
+  where
+    go : (t : Bool) → batches_waiting (if t then after_taking sys (piece_at sys.pieces i) upto w else w) ≤ batches_waiting w + 1
+    go true = let a = left-fewer upto w.mail in omega (arith, a)
+    go false = omega arith
+made-waits sys ws (BaseGive i) k w = go (k == i) (sent_to sys (piece_at sys.pieces i) (worker_at ws i) k)
+  where
+    go : (t : Bool) (posts : List Post) → batches_waiting (if t then after_giving sys (piece_at sys.pieces i) w else after_receiving i ((worker_at ws i).gives + 1) posts w) ≤ batches_waiting w + 1
+    go true posts = omega arith
+    go false [] = omega arith
+    go false (p ∷ posts) = let a = set-more w.mail i (record { number = (worker_at ws i).gives + 1; posts = p ∷ posts }) in omega (arith, a)
+
+-- at most as many batches wait for a worker as there are events
+abbrev pub FewWait : State → Type 0
+FewWait s = (k : ℕ) → k < worker_count s → batches_waiting (worker_at s.workers k) ≤ length s.past
+
+few-base : (sys : System) (s : State) (e : Event) (b : BaseEvent) → workers_after sys s e ≡ base_after sys s.workers b → FewWait s → FewWait (state_after sys s e)
+few-base sys s e b same few k h =
+    let n = ap (λ (ws : BaseState). length ws) same ∙ after-length sys s.workers b in
+    let l : k < worker_count s = omega (arith, h, n) in
+    let at = ap (λ (ws : BaseState). batches_waiting (worker_at ws k)) same ∙ ap (λ (w : Worker). batches_waiting w) (after-at sys s.workers b k l) in
+    let more = made-waits sys s.workers b k (worker_at s.workers k) in
+    let old = few k l in
+    omega (arith, at, more, old)
+
+few-same : (sys : System) (s : State) (e : Event) → workers_after sys s e ≡ s.workers → FewWait s → FewWait (state_after sys s e)
+few-same sys s e same few k h =
+    let n = ap (λ (ws : BaseState). length ws) same in
+    let at = ap (λ (ws : BaseState). batches_waiting (worker_at ws k)) same in
+    let old = few k (omega (arith, h, n)) in
+    omega (arith, at, old)
+
+pub few_kept : (sys : System) (s : State) (e : Event) → FewWait s → FewWait (state_after sys s e)
+few_kept sys s (Take i k) few = few-base sys s (Take i k) (BaseTake i (gives_of_each (numbers_below (worker_count s)) s.past)) refl few
+few_kept sys s (Give i) few = few-base sys s (Give i) (BaseGive i) refl few
+few_kept sys s (Stretch i t) few = few-same sys s (Stretch i t) refl few
+few_kept sys s (Hold i) few = few-same sys s (Hold i) refl few
+few_kept sys s (Flag i) few = few-same sys s (Flag i) refl few
+few_kept sys s Ask few = few-same sys s Ask refl few
+few_kept sys s (Ack i) few = few-same sys s (Ack i) refl few
+few_kept sys s (Nack i) few = few-same sys s (Nack i) refl few
+few_kept sys s (Begin e) few = few-same sys s (Begin e) refl few
+few_kept sys s (Mark i) few = few-same sys s (Mark i) refl few
+few_kept sys s (Seal e) few = few-same sys s (Seal e) refl few
+few_kept sys s (Kept e) few = few-same sys s (Kept e) refl few
+few_kept sys s End few = few-same sys s End refl few
+few_kept sys s (Stop c) few = few-same sys s (Stop c) refl few
+
+-- ---- who is out
+
+others_count : (n i : ℕ) (f : ℕ → Worker → Worker) (ws : BaseState) → ((k : ℕ) (w : Worker) → k ≢ i → is_running (f k w) ≡ is_running w) → i < n → works_out (each_worker_from n f ws) ≡ works_out ws
+others_count n i f [] same h = refl
+others_count n i f (w ∷ ws) same h =
+    let a = sum_by-cons (λ (x : Worker). cond (is_running x) 1 0) (f n w) (each_worker_from (n + 1) f ws) in
+    let b = sum_by-cons (λ (x : Worker). cond (is_running x) 1 0) w ws in
+    let d : n ≢ i = λ e. absurd (omega (arith, h, e)) in
+    let c = ap {B = ℕ} (λ t. cond t 1 0) (same n w d) in
+    let r = others_count (n + 1) i f ws same (omega (arith, h)) in
+    omega (arith, a, b, c, r)
+
+one_rests : (n p i : ℕ) (f : ℕ → Worker → Worker) (ws : BaseState) → ((k : ℕ) (w : Worker) → k ≢ i → is_running (f k w) ≡ is_running w) → ((w : Worker) → is_running (f i w) ≡ false) →
+    i ≡ n + p → p < length ws → is_running (worker_at ws p) ≡ true → works_out (each_worker_from n f ws) + 1 ≡ works_out ws
+one_rests n p i f [] same rest e h runs = absurd (omega (arith, h))
+one_rests n zero i f (w ∷ ws) same rest e h runs =
+    let here : i ≡ n = omega (arith, e) in
+    let a = sum_by-cons (λ (x : Worker). cond (is_running x) 1 0) (f n w) (each_worker_from (n + 1) f ws) in
+    let b = sum_by-cons (λ (x : Worker). cond (is_running x) 1 0) w ws in
+    let c = ap {B = ℕ} (λ t. cond t 1 0) (ap (λ k. is_running (f k w)) (sym here) ∙ rest w) in
+    let d = ap {B = ℕ} (λ t. cond t 1 0) runs in
+    let l : i < n + 1 = omega (arith, here) in
+    let r = others_count (n + 1) i f ws same l in
+    omega (arith, a, b, c, d, r)
+one_rests n (suc p) i f (w ∷ ws) same rest e h runs =
+    let a = sum_by-cons (λ (x : Worker). cond (is_running x) 1 0) (f n w) (each_worker_from (n + 1) f ws) in
+    let b = sum_by-cons (λ (x : Worker). cond (is_running x) 1 0) w ws in
+    let d : n ≢ i = λ k. absurd (omega (arith, e, k)) in
+    let c = ap {B = ℕ} (λ t. cond t 1 0) (same n w d) in
+    let there : i ≡ n + 1 + p = omega (arith, e) in
+    let l : p < length ws = omega (arith, h) in
+    let r = one_rests (n + 1) p i f ws same rest there l runs in
+    omega (arith, a, b, c, r)
+
+-- a Give brings one back
+pub one_back : (sys : System) (ws : BaseState) (i : ℕ) → i < length ws → is_running (worker_at ws i) ≡ true → works_out (base_after sys ws (BaseGive i)) + 1 ≡ works_out ws
+one_back sys ws i h runs = one_rests 0 i i f ws same rest (omega arith) h runs
+  where
+    f : ℕ → Worker → Worker
+    f k w = if k == i then after_giving sys (piece_at sys.pieces i) w else after_receiving i ((worker_at ws i).gives + 1) (sent_to sys (piece_at sys.pieces i) (worker_at ws i) k) w
+
+    received : (posts : List Post) (w : Worker) → is_running (after_receiving i ((worker_at ws i).gives + 1) posts w) ≡ is_running w
+    received [] w = refl
+    received (p ∷ posts) w = refl
+
+    same : (k : ℕ) (w : Worker) → k ≢ i → is_running (if k == i then after_giving sys (piece_at sys.pieces i) w else after_receiving i ((worker_at ws i).gives + 1) (sent_to sys (piece_at sys.pieces i) (worker_at ws i) k) w) ≡ is_running w
+    same k w n =
+        ap (λ b. is_running (if b then after_giving sys (piece_at sys.pieces i) w else after_receiving i ((worker_at ws i).gives + 1) (sent_to sys (piece_at sys.pieces i) (worker_at ws i) k) w)) (ne_eqb k i n)
+        ∙ received (sent_to sys (piece_at sys.pieces i) (worker_at ws i) k) w
+
+    rest : (w : Worker) → is_running (if i == i then after_giving sys (piece_at sys.pieces i) w else after_receiving i ((worker_at ws i).gives + 1) (sent_to sys (piece_at sys.pieces i) (worker_at ws i) i) w) ≡ false
+    rest w = ap (λ b. is_running (if b then after_giving sys (piece_at sys.pieces i) w else after_receiving i ((worker_at ws i).gives + 1) (sent_to sys (piece_at sys.pieces i) (worker_at ws i) i) w)) (eq-eqb i i refl)
