@@ -9,12 +9,12 @@ pub mod Takings
 pub mod Mailing
 pub mod Answering
 pub mod Idling
+pub mod Ready
+pub mod Opening
+pub mod First
 pub mod Receipts
 pub mod Waiting
 pub mod Given
 pub mod Gives
-pub mod Ready
-pub mod Opening
-pub mod First
 pub mod Nexts
 pub mod Finished
