@@ -3,7 +3,6 @@ use Rattle.std.specs.Prelude.{ℕ, ◌+◌, Bool, true, false, ◌==◌, ◌&&�
 use Rattle.value_order.specs.declared.order.Order.{Order}
 use Rattle.value_order.specs.declared.TheConstants.{NOTHING}
 use Rattle.value_order.specs.Order.{meet_of}
-use Rattle.message_buffer.specs.HandValues.{HandValues}
 use Rattle.message_buffer.specs.BufferValues.{BufferValues}
 
 -- no mail for so many mirrors

@@ -2,3 +2,4 @@ pub mod HandValues
 pub mod Hands
 pub mod BufferValues
 pub mod Buffers
+pub mod Posted

@@ -7,10 +7,12 @@
 
 mod buffer;
 mod hand;
+mod laws;
 mod meets;
 
 pub use buffer::Buffer;
 pub use hand::Hand;
+pub use laws::buffer_has_what_was_posted;
 
 #[cfg(test)]
 mod tests;

@@ -1,4 +1,4 @@
-use crate::Hand;
+use crate::{Buffer, Hand};
 use std::test::Fail;
 use value_order::{NOTHING, Order};
 
@@ -17,6 +17,84 @@ fn takes_the_meet(rt: HostRuntime) -> Result<(), Fail> {
         hand.lower(1, second);
         assert!(rt; !hand.is_empty());
         assert_eq!(rt; hand.values(), [NOTHING, want].as_slice());
+    }
+    Ok(())
+}
+
+#[test]
+fn takes_what_was_posted(rt: HostRuntime) -> Result<(), Fail> {
+    // two posts untagged and one tagged to mirror 0, one untagged to mirror 1, one tagged to mirror 2
+    let table = [
+        (Order::Least, [9, 6, 4], [6, 7, NOTHING], [4, 7, 5]),
+        (Order::Mask, [14, 7, 3], [6, 7, NOTHING], [2, 7, 5]),
+    ];
+    for (order, [first, second, third], untagged, all) in table {
+        let mut buffer = Buffer::new(rt.alloc(), order, 4)?;
+        let mut hand = Hand::new(rt.alloc(), order, 4)?;
+        hand.lower(3, 1);
+        assert_eq!(rt;
+            (buffer.batches(), buffer.tagged(), buffer.waiting()),
+            (0, 0, 0)
+        );
+        assert_eq!(rt; buffer.plain(), [NOTHING; 4].as_slice());
+
+        buffer.begin_batch(false);
+        buffer.post(false, 0, first);
+        buffer.post(false, 1, 7);
+        buffer.begin_batch(false);
+        buffer.post(false, 0, second);
+        buffer.begin_batch(true);
+        buffer.post(true, 0, third);
+        buffer.post(true, 2, 5);
+        assert_eq!(rt;
+            (buffer.batches(), buffer.tagged(), buffer.waiting()),
+            (3, 1, 3)
+        );
+        assert_eq!(rt;
+            buffer.plain(),
+            [untagged[0], untagged[1], untagged[2], NOTHING].as_slice()
+        );
+
+        buffer.take(&mut hand);
+        assert_eq!(rt; hand.values(), [all[0], all[1], all[2], NOTHING].as_slice());
+        assert_eq!(rt;
+            (buffer.batches(), buffer.tagged(), buffer.waiting()),
+            (0, 0, 0)
+        );
+        assert_eq!(rt; buffer.plain(), [NOTHING; 4].as_slice());
+
+        buffer.take(&mut hand);
+        assert!(rt; hand.is_empty());
+    }
+    Ok(())
+}
+
+#[test]
+fn folds_the_tagged_batches(rt: HostRuntime) -> Result<(), Fail> {
+    let table = [(Order::Least, 12, 10, 10), (Order::Mask, 12, 10, 8)];
+    for (order, untagged, tagged, met) in table {
+        let mut buffer = Buffer::new(rt.alloc(), order, 3)?;
+        buffer.begin_batch(false);
+        buffer.post(false, 0, untagged);
+        buffer.begin_batch(true);
+        buffer.post(true, 0, tagged);
+        buffer.begin_batch(true);
+        buffer.post(true, 2, tagged);
+        assert_eq!(rt;
+            (buffer.batches(), buffer.tagged(), buffer.waiting()),
+            (3, 2, 2)
+        );
+
+        buffer.fold();
+        assert_eq!(rt; buffer.plain(), [met, NOTHING, tagged].as_slice());
+        assert_eq!(rt;
+            (buffer.batches(), buffer.tagged(), buffer.waiting()),
+            (3, 0, 2)
+        );
+
+        let mut hand = Hand::new(rt.alloc(), order, 3)?;
+        buffer.take(&mut hand);
+        assert_eq!(rt; hand.values(), [met, NOTHING, tagged].as_slice());
     }
     Ok(())
 }
