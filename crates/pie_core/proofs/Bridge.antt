@@ -11,7 +11,7 @@ use Rattle.graph_core.specs.declared.job.Job.{Job}
 use Rattle.graph_core.specs.declared.fragment.Reading.{Reading}
 use Rattle.graph_core.specs.Graphs.{IsJob}
 use Rattle.graph_core.specs.Queries.{Read, reads_of, equations_of}
-use Rattle.graph_core.specs.Fragments.{pieces_of, piece_at, piece_of, no_piece, owned_of, mirrors_of, places_of, place_of, readings_of, readers_of, insert_reading, sorted_readings, comes_before, StandsAt, AreCutOf}
+use Rattle.graph_core.specs.Fragments.{pieces_of, piece_at, piece_of, no_piece, places, owned_of, mirrors_of, places_of, place_of, readings_of, readers_of, insert_reading, sorted_readings, comes_before, StandsAt, AreCutOf}
 use Rattle.graph_core.proofs.Lists.{contains_here, contains_later, contains_none, contains_cases, contains_map, map_contains, contains_flat_map, flat_map_contains}
 use Rattle.graph_core.proofs.Cutting.{fragments_cut, stands_left}
 use Rattle.pie_core.specs.Solutions.{value_at}
@@ -99,6 +99,12 @@ module _ (job : Job) (i : ℕ) (is_job : IsJob job) (in_job : i < job.settings.f
 
   piece-is : piece_at (pieces_of job) i ≡ piece_of job i
   piece-is = get_or-map-range_with_len (piece_of job) 0 job.settings.fragments i i no_piece in_job (omega arith)
+
+  -- a place's vertex is one of the equations'
+  pub place_inside : (p : ℕ) → p < length (places_of job i) → slice_index (places_of job i) p < (equations_of job).count
+  place_inside p h =
+      let r = cut.in_range i p in_pieces (subst (λ piece. p < length (places piece)) (sym piece-is) h) in
+      subst (λ piece. slice_index (places piece) p < (equations_of job).count) piece-is r
 
   -- no vertex has two places
   pub places_apart : (p q v : ℕ) → StandsAt (places_of job i) p v → StandsAt (places_of job i) q v → p ≡ q

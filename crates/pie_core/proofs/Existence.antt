@@ -25,7 +25,7 @@ EquationsHold e x [] xs = Unit {0}
 EquationsHold e x (v ∷ vs) [] = Unit {0}
 EquationsHold e x (v ∷ vs) (a ∷ xs) = Below e.order a (e.phi v x) × EquationsHold e x vs xs
 
-value_at-below : (o : Order) (vs ys xs : List ℕ) (u : ℕ) → AllBelow o ys xs → Below o (value_at vs ys u) (value_at vs xs u)
+pub value_at-below : (o : Order) (vs ys xs : List ℕ) (u : ℕ) → AllBelow o ys xs → Below o (value_at vs ys u) (value_at vs xs u)
 value_at-below o [] ys xs u h = Below-refl o 0
 value_at-below o (v ∷ vs) [] [] u h = Below-refl o 0
 value_at-below o (v ∷ vs) [] (x ∷ xs) u h = absurd h
@@ -37,7 +37,7 @@ value_at-below o (v ∷ vs) (y ∷ ys) (x ∷ xs) u h = pick (v == u) y x (value
     pick false s t s' t' k k' = k'
 
 -- the generic use of monotony: what lies below x everywhere has lower equations
-phi-below : (e : Equations) → AreLawful e → (v : ℕ) (x y : Assignment) → v < e.count → ((u : ℕ) → Below e.order (x u) (y u)) → Below e.order (e.phi v x) (e.phi v y)
+pub phi-below : (e : Equations) → AreLawful e → (v : ℕ) (x y : Assignment) → v < e.count → ((u : ℕ) → Below e.order (x u) (y u)) → Below e.order (e.phi v x) (e.phi v y)
 phi-below e lawful v x y h k = lawful.monotone v x y h (λ u _. k u)
 
 lowered_by_equations-below : (e : Equations) (x : Assignment) (vs xs : List ℕ) → AllBelow e.order (lowered_by_equations e x vs xs) xs
@@ -174,12 +174,12 @@ zero-below : (o : Order) (a : ℕ) → Below o 0 a
 zero-below Least a = omega arith
 zero-below Mask a = and_zero_l a
 
-EquationsHold-from : (e : Equations) (x : Assignment) (vs xs : List ℕ) → ((p : ℕ) → p < length vs → Below e.order (slice_index xs p) (e.phi (slice_index vs p) x)) → EquationsHold e x vs xs
+pub EquationsHold-from : (e : Equations) (x : Assignment) (vs xs : List ℕ) → ((p : ℕ) → p < length vs → Below e.order (slice_index xs p) (e.phi (slice_index vs p) x)) → EquationsHold e x vs xs
 EquationsHold-from e x [] xs h = tt
 EquationsHold-from e x (v ∷ vs) [] h = tt
 EquationsHold-from e x (v ∷ vs) (a ∷ xs) h = (h 0 (omega arith), EquationsHold-from e x vs xs (λ p k. h (suc p) (omega (arith, k))))
 
-EquationsHold-at : (e : Equations) (x : Assignment) (vs xs : List ℕ) → EquationsHold e x vs xs → (p : ℕ) → p < length vs → Below e.order (slice_index xs p) (e.phi (slice_index vs p) x)
+pub EquationsHold-at : (e : Equations) (x : Assignment) (vs xs : List ℕ) → EquationsHold e x vs xs → (p : ℕ) → p < length vs → Below e.order (slice_index xs p) (e.phi (slice_index vs p) x)
 EquationsHold-at e x [] xs h p k = absurd (omega (arith, k))
 EquationsHold-at e x (v ∷ vs) [] h p k = zero-below e.order _
 EquationsHold-at e x (v ∷ vs) (a ∷ xs) h zero k = h.0
@@ -198,7 +198,7 @@ local_solution-is e lawful owned mirrors xs r =
       greatest = λ zs c. after_steps-above e lawful owned mirrors r n zs xs c.below (EquationsHold-from e (value_at (owned ++ mirrors) zs) owned zs c.equations);
     }
 
-vertices_from : (e : Equations) (vs : List ℕ) → ((p : ℕ) → p < length vs → slice_index vs p < e.count) → AreVertices e vs
+pub vertices_from : (e : Equations) (vs : List ℕ) → ((p : ℕ) → p < length vs → slice_index vs p < e.count) → AreVertices e vs
 vertices_from e [] h = tt
 vertices_from e (v ∷ vs) h = (h 0 (omega arith), vertices_from e vs (λ p k. h (suc p) (omega (arith, k))))
 

@@ -5,12 +5,16 @@
 //! what a program computes doesn't depend on how it does it. (PEval and IncEval of GRAPE, SIGMOD 2017.)
 #![tactic(auto)]
 
+mod evaluation;
 mod laws;
 mod local;
 mod pie;
 mod worklist;
 
-pub use laws::{local_solution_is_computed, local_solution_is_unique};
+pub use evaluation::evaluate;
+pub use laws::{
+    local_solution_is_computed, local_solution_is_unique, solved_is_ready_again, solving_in_steps,
+};
 pub use local::Local;
 pub use pie::Pie;
 pub use worklist::Worklist;
