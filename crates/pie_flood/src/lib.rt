@@ -15,3 +15,10 @@ pub use labels::Labels;
 pub use laws::{label_equations, reach_equations};
 pub use reach::Reach;
 pub use worked::{label_values, reach_values};
+
+#[cfg(test)]
+mod compared;
+#[cfg(test)]
+mod plain;
+#[cfg(test)]
+mod tests;

@@ -1,5 +1,5 @@
 -- How a job is shown to have least equations.
-use Rattle.std.proofs.Common.{◌≡◌, ℕ, ◌+◌, Bool, true, false, ◌==◌, cond, List, map, refl, sym, arith}
+use Rattle.std.proofs.Common.{◌≡◌, ℕ, ◌+◌, Bool, true, false, ◌==◌, cond, List, map, refl, arith}
 use Rattle.std.specs.List.{list_any}
 use Rattle.value_order.specs.declared.order.Order.TheVariants.{Least}
 use Rattle.graph_core.specs.declared.job.Job.{Job}

@@ -1,5 +1,5 @@
 -- Relaxed values of a fragment are the local solution of least equations.
-use Rattle.std.proofs.Common.{◌≡◌, ℕ, zero, suc, ◌+◌, ◌<◌, ◌≤◌, inl, inr, Bool, true, false, ◌==◌, ◌&&◌, not, if◌then◌else◌, refl, sym, ap, subst, arith, List, [], ◌∷◌, ◌++◌, length, map, filter, take, drop, slice_index, Contains}
+use Rattle.std.proofs.Common.{◌≡◌, ℕ, zero, suc, ◌+◌, ◌<◌, ◌^◌, ◌≤◌, inl, inr, Bool, true, false, ◌==◌, ◌&&◌, not, if◌then◌else◌, refl, sym, ap, subst, arith, List, [], ◌∷◌, ◌++◌, length, map, filter, take, drop, slice_index, Contains}
 use Rattle.std.specs.List.{range_with_len}
 use Rattle.std.proofs.lemmas.Bool.{cases_lt}
 use Rattle.std.proofs.lemmas.List.FromFn.{length-range_with_len}
@@ -170,24 +170,28 @@ below-far f (v ∷ vs) (x ∷ xs) far h (suc q) = below-far f vs xs far h.1 q
 
 -- ---- what evaluation is given
 
-module _ (job : Job) (is_job : IsJob job) (part : FragmentLists) (local : LocalValues) (n : ℕ) (ready : IsReadyFor (equations_of job) job part local n) where
-  pub ready-fits : FitsPart part local
-  ready-fits =
-      let i = part.number in
-      let count = count_of job.graph in
-      let same = ap (λ (p : FragmentLists). place_count p) ready.is_part in
-      let owned = few-pass (λ v. owner job v == i) (range_with_len 0 count) in
-      let mirrors = few-pass (λ v. not (owner job v == i) && is_read_in job i v) (range_with_len 0 count) in
-      let all = length-range_with_len 0 count in
-      let few = is_job.graph.few_vertices in
-      let values = length_all_zip (Below (equations_of job).order) local.values (starts_of (equations_of job) (part.owned ++ part.mirrors)) ready.below_start in
-      let starts = length-map (part.owned ++ part.mirrors) (equations_of job).start in
-      let places = length-append part.owned part.mirrors in
-      record {
-        few = omega (arith, same, owned, mirrors, all, few);
-        places = omega (arith, values, starts, places);
-        owned = ready.owned;
-      }
+-- a fragment of a job has no more places than two for each vertex
+pub few-places : (job : Job) → IsJob job → (part : FragmentLists) → part ≡ fragment_of job part.number → place_count part < 2 ^ 32
+few-places job is_job part is_part =
+    let i = part.number in
+    let count = count_of job.graph in
+    let same = ap (λ (p : FragmentLists). place_count p) is_part in
+    let owned = few-pass (λ v. owner job v == i) (range_with_len 0 count) in
+    let mirrors = few-pass (λ v. not (owner job v == i) && is_read_in job i v) (range_with_len 0 count) in
+    let all = length-range_with_len 0 count in
+    let few = is_job.graph.few_vertices in
+    omega (arith, same, owned, mirrors, all, few)
+
+pub ready-fits : (job : Job) → IsJob job → (part : FragmentLists) (local : LocalValues) (n : ℕ) → IsReadyFor (equations_of job) job part local n → FitsPart part local
+ready-fits job is_job part local n ready =
+    let values = length_all_zip (Below (equations_of job).order) local.values (starts_of (equations_of job) (part.owned ++ part.mirrors)) ready.below_start in
+    let starts = length-map (part.owned ++ part.mirrors) (equations_of job).start in
+    let places = length-append part.owned part.mirrors in
+    record {
+      few = few-places job is_job part ready.is_part;
+      places = omega (arith, values, starts, places);
+      owned = ready.owned;
+    }
 
 module _ (cost : ℕ → ℕ) (job : Job) (is_least : IsLeastJob cost job) where
   -- as the equations of this form have it
