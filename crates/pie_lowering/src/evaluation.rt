@@ -11,7 +11,7 @@ use message_buffer::Hand;
 use pie_core::Local;
 
 /// Evaluates a fragment of a job with least equations: leaves the local solution of the values at entry, which lie below
-/// the starts. Each owned place is looked at once, and again as often as its value falls. Takes no memory.
+/// the starts. Each owned place is looked at once, and again after its value fell. Takes no memory.
 pub fn evaluate<C: Cost>(part: &Fragment, local: &mut Local)
     requires { (job : Job) × IsLeastJob C.cost_of job × IsReadyFor (equations_of job) job part.now local.old 0 }
     ensures solution { (job : Job) → IsLeastJob C.cost_of job → IsReadyFor (equations_of job) job part.now local.old 0 →
