@@ -1,6 +1,3 @@
-pub mod Steps
-pub mod Mirrors
-pub mod Solved
+pub mod LeastDist
 pub mod WorkedParts
 pub mod Readings
-pub mod Starting

@@ -15,9 +15,10 @@ use Rattle.pie_core.specs.LocalCalls.{with_value}
 use Rattle.pie_core.specs.Solutions.{IsReadyFor}
 use Rattle.pie_core.proofs.Bridge.{in_readers_row, from_readers_row, in_readings_row, from_readings_row}
 use Rattle.pie_dist.specs.DistJobs.{IsDistJob}
-use Rattle.pie_dist.specs.Lowering.{LieBelow, IsRelaxed, FitsPart, HasFallen}
+use Rattle.pie_lowering.specs.LeastEquations.{whole_weight}
+use Rattle.pie_lowering.specs.Lowering.{LieBelow, IsRelaxed, FitsPart, HasFallen}
 use Rattle.pie_dist.specs.ByReadings.{RowsMatch, IsLeastAt, HoldsReadings, HasLoweredPlace, HasPassed}
-use Rattle.pie_dist.proofs.Steps.{fallen-refl, fallen-trans}
+use Rattle.pie_lowering.proofs.Steps.{fallen-refl, fallen-trans}
 
 -- ---- the least of a row
 
@@ -67,7 +68,7 @@ least-all part row xs p least n same all h = record {
 
 pub place-stays : (part : FragmentLists) (old : LocalValues) (p least : ℕ) → IsLeastAt part old.values p least → slice_index old.values p ≤ least → HasLoweredPlace part old old p false
 place-stays part old p least h l = record {
-  fallen = fallen-refl part old;
+  fallen = fallen-refl whole_weight part old;
   less = λ e. absurd (let x : false ≡ true = e in cc);
   stays = λ e. refl;
   held = λ e r c. omega (arith, l, h.readings r c);
@@ -103,7 +104,7 @@ place-falls part old p least fits rows p_owned h l = record {
     elsewhere : (v : ℕ) → v ≢ p → slice_index (with_value old p least).values v ≡ slice_index old.values v
     elsewhere v d = get_or-set_other old.values p v least 0 d
 
-    under : (ys : List ℕ) → IsRelaxed part ys → LieBelow ys old.values → slice_index ys p ≤ least
+    under : (ys : List ℕ) → IsRelaxed whole_weight part ys → LieBelow ys old.values → slice_index ys p ≤ least
     under ys r low = elim h.attained [
       | inl own ↦ omega (arith, low p, own)
       | inr w ↦
@@ -116,14 +117,14 @@ place-falls part old p least fits rows p_owned h l = record {
 
 -- so far: a value fell, or nothing changed and the places so far are held by their readings
 pub record PassedSoFar (part : FragmentLists) (start now : LocalValues) (fell : Bool) (n : ℕ) : Type 0 where
-  pub fallen : HasFallen part start now
+  pub fallen : HasFallen whole_weight part start now
   pub less : fell ≡ true → sum now.values < sum start.values
   pub stays : fell ≡ false → now ≡ start
   pub held : fell ≡ false → (p : ℕ) → p < n → HoldsReadings part now.values p
 
 pub pass-first : (part : FragmentLists) (start : LocalValues) → PassedSoFar part start start false 0
 pass-first part start = record {
-  fallen = fallen-refl part start;
+  fallen = fallen-refl whole_weight part start;
   less = λ e. absurd (let x : false ≡ true = e in cc);
   stays = λ e. refl;
   held = λ e p l. absurd (omega (arith, l));
@@ -131,7 +132,7 @@ pass-first part start = record {
 
 pub pass-more : (part : FragmentLists) (start old new : LocalValues) (fell now : Bool) (n : ℕ) → PassedSoFar part start old fell n → HasLoweredPlace part old new n now → PassedSoFar part start new (fell || now) (n + 1)
 pass-more part start old new true now n h k = record {
-  fallen = fallen-trans part start old new h.fallen k.fallen;
+  fallen = fallen-trans whole_weight part start old new h.fallen k.fallen;
   less = λ e. not_more now (h.less refl) k;
   stays = λ e. absurd (let x : true ≡ false = e in cc);
   held = λ e. absurd (let x : true ≡ false = e in cc);
@@ -141,13 +142,13 @@ pass-more part start old new true now n h k = record {
     not_more true l k = omega (arith, l, k.less refl)
     not_more false l k = omega (arith, l, ap (λ (x : LocalValues). sum x.values) (k.stays refl))
 pass-more part start old new false true n h k = record {
-  fallen = fallen-trans part start old new h.fallen k.fallen;
+  fallen = fallen-trans whole_weight part start old new h.fallen k.fallen;
   less = λ e. omega (arith, k.less refl, ap (λ (x : LocalValues). sum x.values) (h.stays refl));
   stays = λ e. absurd (let x : true ≡ false = e in cc);
   held = λ e. absurd (let x : true ≡ false = e in cc);
 }
 pass-more part start old new false false n h k = record {
-  fallen = fallen-trans part start old new h.fallen k.fallen;
+  fallen = fallen-trans whole_weight part start old new h.fallen k.fallen;
   less = λ e. absurd (let x : false ≡ true = e in cc);
   stays = λ e. k.stays refl ∙ h.stays refl;
   held = λ e p l. elim (cases_eq p n) [

@@ -1,18 +1,14 @@
 -- The fragments of the worked rows are ready to be evaluated.
-use Rattle.std.proofs.Common.{◌≡◌, ℕ, ◌<◌, ◌^◌, List, [], ◌∷◌, ◌++◌, length, refl, sym, ◌∙◌, ap, subst, arith}
+use Rattle.std.proofs.Common.{◌≡◌, ℕ, ◌<◌, ◌^◌, List, [], ◌∷◌, length, refl, sym, ◌∙◌, ap, subst, arith}
 use Rattle.std.proofs.lemmas.List.Elements.{All-from_recursion}
 use Rattle.graph_core.specs.declared.edge.Edge.{Edge}
-use Rattle.graph_core.specs.declared.job.Job.{Job}
 use Rattle.graph_core.specs.declared.TheConstants.{FAR}
 use Rattle.graph_core.specs.Parts.{FragmentLists}
-use Rattle.graph_core.specs.Equations.{Equations}
 use Rattle.graph_core.specs.Queries.{equations_of}
 use Rattle.graph_core.specs.Fragments.{fragment_of}
-use Rattle.message_buffer.specs.HandValues.{HandValues}
 use Rattle.pie_core.specs.Locals.{LocalValues}
 use Rattle.pie_core.specs.LocalCalls.{new_local, loaded}
-use Rattle.pie_core.specs.Solutions.{IsReadyFor, IsReadyAgain, IsLocalSolution, starts_of}
-use Rattle.pie_core.proofs.Lists.{AllBelow-trans}
+use Rattle.pie_core.specs.Solutions.{IsReadyFor}
 use Rattle.pie_dist.specs.DistJobs.{IsDistJob}
 use Rattle.pie_dist.specs.Worked.{one_range, two_ranges}
 
@@ -47,21 +43,6 @@ second_ready part made local counters is_part none is_made is_local =
     let local_is : local ≡ loaded (new_local 1 1 0) (FAR ∷ FAR ∷ []) = is_local ∙ ap (λ m. loaded m (FAR ∷ FAR ∷ [])) made_is in
     subst (λ (p : FragmentLists). IsReadyFor (equations_of two_ranges) two_ranges p local 0) (sym is_part)
     (subst (λ (l : LocalValues). IsReadyFor (equations_of two_ranges) two_ranges (fragment_of two_ranges 1) l 0) (sym local_is) far_ready)
-
--- what was evaluated can be evaluated again
-pub ready-again : (e : Equations) (job : Job) (part : FragmentLists) (old new : LocalValues) (counters : ℕ) (hand : HandValues) → IsReadyFor e job part old counters → IsLocalSolution e part.owned part.mirrors old.values new.values
-    → new.before ≡ old.before → length new.counters ≡ length old.counters → length hand.values ≡ length part.mirrors → IsReadyAgain e job part new counters hand
-ready-again e job part old new counters hand ready solution before room mirrors = record {
-  ready = record {
-    number = ready.number;
-    is_part = ready.is_part;
-    below_start = AllBelow-trans e.order new.values old.values (starts_of e (part.owned ++ part.mirrors)) solution.candidate.below ready.below_start;
-    owned = ap length before ∙ ready.owned;
-    room = room ∙ ready.room;
-  };
-  solved = solution.candidate.equations;
-  mirrors = mirrors;
-}
 
 -- ---- and the one fragment of another job
 

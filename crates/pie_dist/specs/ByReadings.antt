@@ -3,7 +3,8 @@ use Rattle.std.specs.Prelude.{◌≡◌, ℕ, ◌+◌, ◌<◌, ◌≤◌, ◌�
 use Rattle.graph_core.specs.declared.fragment.Reading.{Reading}
 use Rattle.graph_core.specs.Parts.{FragmentLists, place_count}
 use Rattle.pie_core.specs.Locals.{LocalValues}
-use Rattle.pie_dist.specs.Lowering.{HasFallen, IsRelaxed}
+use Rattle.pie_lowering.specs.LeastEquations.{whole_weight}
+use Rattle.pie_lowering.specs.Lowering.{HasFallen, IsRelaxed}
 
 -- The rows of readings and of readers say the same: a place stands among the readers of each place that it reads, and reads each place among whose readers it stands.
 pub record RowsMatch (part : FragmentLists) : Type 0 where
@@ -24,13 +25,13 @@ HoldsReadings part xs p = (r : Reading) → Contains (slice_index_or part.readin
 
 -- One place was lowered as far as it had to: its value fell, or nothing changed and it is held by its readings.
 pub record HasLoweredPlace (part : FragmentLists) (old new : LocalValues) (p : ℕ) (fell : Bool) : Type 0 where
-  pub fallen : HasFallen part old new
+  pub fallen : HasFallen whole_weight part old new
   pub less : fell ≡ true → sum new.values < sum old.values
   pub stays : fell ≡ false → new ≡ old
   pub held : fell ≡ false → HoldsReadings part new.values p
 
 -- All owned places were: a value fell, or the values are relaxed.
 pub record HasPassed (part : FragmentLists) (old new : LocalValues) (fell : Bool) : Type 0 where
-  pub fallen : HasFallen part old new
+  pub fallen : HasFallen whole_weight part old new
   pub less : fell ≡ true → sum new.values < sum old.values
-  pub relaxed : fell ≡ false → IsRelaxed part new.values
+  pub relaxed : fell ≡ false → IsRelaxed whole_weight part new.values

@@ -1,5 +1,4 @@
 pub mod DistJobs
-pub mod Lowering
 pub mod Laws
 pub mod Worked
 pub mod ByReadings

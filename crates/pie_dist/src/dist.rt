@@ -1,9 +1,7 @@
-ghost use Rattle.std.specs.Prelude.{◌≡◌, ℕ};
-
-use crate::lowering::{list_owned, lower_mirror_readers, lower_mirrors, work_off};
 use graph_core::Fragment;
 use message_buffer::Hand;
 use pie_core::{Local, Pie};
+use pie_lowering::{Weights, evaluate, evaluate_again};
 use value_order::Order;
 
 /// The program of distances. It keeps nothing of its own, and has no counters.
@@ -42,13 +40,10 @@ impl Pie for Dist {
     }
 
     fn peval(&self, part: &Fragment, local: &mut Local) {
-        list_owned(local, part.owned().len() as u32);
-        lower_mirror_readers(part, local);
-        work_off(part, local);
+        evaluate::<Weights>(part, local);
     }
 
     fn inceval(&self, part: &Fragment, local: &mut Local, hand: &Hand) {
-        lower_mirrors(part, local, hand);
-        work_off(part, local);
+        evaluate_again::<Weights>(part, local, hand);
     }
 }

@@ -2,8 +2,7 @@ use Rattle.std.proofs.Common.{refl, ◌∙◌}
 use Rattle.value_order.specs.declared.order.Order.TheVariants.{Least}
 use Rattle.message_buffer.specs.HandValues.{HandValues}
 use Rattle.pie_core.specs.Solutions.{IsReadyFor}
-use Rattle.pie_dist.proofs.WorkedParts.{ready-again}
-use Rattle.pie_dist.proofs.Starting.{loaded-ready}
+use Rattle.pie_lowering.proofs.Starting.{loaded-ready, ready-again}
 use Rattle.pie_dist.proofs.compared.evaluated.Goals as goal
 
 pub peval-requires : goal.peval-requires

@@ -1,5 +1,5 @@
 use Rattle.graph_core.specs.Queries.{equations_of}
-use Rattle.pie_dist.proofs.Starting.{starts-more}
+use Rattle.pie_lowering.proofs.Starting.{starts-more}
 use Rattle.pie_dist.proofs.compared.push_starts.Goals as goal
 
 pub starts-preserved : goal.starts-preserved

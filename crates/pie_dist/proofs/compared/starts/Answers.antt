@@ -1,4 +1,4 @@
-use Rattle.pie_dist.proofs.Starting.{owned-inside, mirrors-inside}
+use Rattle.pie_lowering.proofs.Starting.{owned-inside, mirrors-inside}
 use Rattle.pie_dist.proofs.compared.starts.Goals as goal
 
 pub push_starts-requires-clause-vertices : goal.push_starts-requires-clause-vertices

@@ -1,5 +1,5 @@
 use Rattle.std.proofs.Common.{◌≡◌, take}
-use Rattle.pie_dist.specs.Lowering.{with_mirrors}
+use Rattle.pie_lowering.specs.Lowering.{with_mirrors}
 use Rattle.pie_dist.proofs.plain.meet_mirrors.Given as goal
 
 -- the mirrors so far are lowered by the hand

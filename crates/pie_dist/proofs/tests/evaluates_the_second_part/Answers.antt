@@ -4,8 +4,9 @@ use Rattle.graph_core.specs.Queries.{equations_of}
 use Rattle.message_buffer.specs.HandValues.{HandValues}
 use Rattle.message_buffer.specs.Hands.{lowered_hand}
 use Rattle.pie_core.specs.Solutions.{IsReadyFor}
+use Rattle.pie_lowering.proofs.Starting.{ready-again}
 use Rattle.pie_dist.specs.Worked.{two_ranges}
-use Rattle.pie_dist.proofs.WorkedParts.{row_is_for, second_ready, ready-again}
+use Rattle.pie_dist.proofs.WorkedParts.{row_is_for, second_ready}
 use Rattle.pie_dist.proofs.tests.evaluates_the_second_part.Goals as goal
 
 pub peval-requires : goal.peval-requires

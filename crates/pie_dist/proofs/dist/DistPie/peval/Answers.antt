@@ -1,51 +1,8 @@
-use Rattle.std.proofs.Common.{arith, ap, length}
-use Rattle.pie_dist.specs.Lowering.{HasFallen}
-use Rattle.pie_dist.proofs.Steps.{fallen-same, fallen-trans, fallen-fits, fallen-far}
-use Rattle.pie_dist.proofs.Solved.{ready-fits, ready-far, peval-solution}
+use Rattle.pie_dist.proofs.LeastDist.{dist-least}
 use Rattle.pie_dist.proofs.dist.DistPie.peval.Goals as goal
 
-pub overflow_cast-owned : goal.overflow_cast-owned
-overflow_cast-owned c =
-    let r = c.requires in
-    let fits = ready-fits r.0 r.1 c.args.part.now c.args.local.now 0 r.2 in
-    omega (arith, fits.few, ap length c.owned.ensures.owned)
-
-pub lower_mirror_readers-requires-clause-fits : goal.lower_mirror_readers-requires-clause-fits
-lower_mirror_readers-requires-clause-fits c =
-    let r = c.requires in
-    fallen-fits c.args.part.now c.args.local.now c.list_owned.new.local (fallen-same c.args.part.now c.args.local.now c.list_owned.new.local c.list_owned.ensures.rest) (ready-fits r.0 r.1 c.args.part.now c.args.local.now 0 r.2)
-
-pub lower_mirror_readers-requires-clause-at_most_far : goal.lower_mirror_readers-requires-clause-at_most_far
-lower_mirror_readers-requires-clause-at_most_far c =
-    let r = c.requires in
-    fallen-far c.args.part.now c.args.local.now c.list_owned.new.local (fallen-same c.args.part.now c.args.local.now c.list_owned.new.local c.list_owned.ensures.rest) (ready-far r.0 r.1 c.args.part.now c.args.local.now 0 r.2)
-
-pub work_off-requires-clause-fits : goal.work_off-requires-clause-fits
-work_off-requires-clause-fits c =
-    let r = c.requires in
-    let part = c.args.part.now in
-    let old = c.args.local.now in
-    let new = c.lower_mirror_readers.new.local in
-    let fell : HasFallen part old new = fallen-trans part old c.list_owned.new.local new (fallen-same part old c.list_owned.new.local c.list_owned.ensures.rest) c.lower_mirror_readers.ensures.fallen in
-    fallen-fits part old new fell (ready-fits r.0 r.1 part old 0 r.2)
-
-pub work_off-requires-clause-at_most_far : goal.work_off-requires-clause-at_most_far
-work_off-requires-clause-at_most_far c =
-    let r = c.requires in
-    let part = c.args.part.now in
-    let old = c.args.local.now in
-    let new = c.lower_mirror_readers.new.local in
-    let fell : HasFallen part old new = fallen-trans part old c.list_owned.new.local new (fallen-same part old c.list_owned.new.local c.list_owned.ensures.rest) c.lower_mirror_readers.ensures.fallen in
-    fallen-far part old new fell (ready-far r.0 r.1 part old 0 r.2)
+pub evaluate-requires : goal.evaluate-requires
+evaluate-requires c = let r = c.requires in (r.0, dist-least r.0 r.1, r.2)
 
 pub returns-clause-solution : goal.returns-clause-solution
-returns-clause-solution c = λ job is_for ready.
-    let part = c.args.part.now in
-    let old = c.args.local.now in
-    let listed = c.list_owned.new.local in
-    let mid = c.lower_mirror_readers.new.local in
-    let new = c.work_off.new.local in
-    let fell : HasFallen part old new = fallen-trans part old listed new (fallen-same part old listed c.list_owned.ensures.rest) (fallen-trans part listed mid new c.lower_mirror_readers.ensures.fallen c.work_off.ensures.fallen) in
-    let owned = ap length c.owned.ensures.owned in
-    let settled = c.lower_mirror_readers.ensures.settled (λ p l. c.list_owned.ensures.waits p (omega (arith, l, owned))) in
-    peval-solution job is_for part old new 0 ready fell (c.work_off.ensures.relaxed settled)
+returns-clause-solution c = λ job is_for. c.evaluate.ensures.solution job (dist-least job is_for)

@@ -1,0 +1,2 @@
+pub mod LeastFlood
+pub mod WorkedJobs

@@ -1,0 +1,8 @@
+use Rattle.pie_flood.proofs.LeastFlood.{reach-least}
+use Rattle.pie_flood.proofs.reach.ReachPie.inceval.Goals as goal
+
+pub evaluate_again-requires : goal.evaluate_again-requires
+evaluate_again-requires c = let r = c.requires in (r.0, reach-least r.0 r.1, r.2)
+
+pub returns-clause-solution : goal.returns-clause-solution
+returns-clause-solution c = λ job is_for. c.evaluate_again.ensures.solution job (reach-least job is_for)

@@ -1,0 +1,3 @@
+pub mod FloodJobs
+pub mod Laws
+pub mod Worked

@@ -1,0 +1,5 @@
+pub mod Steps
+pub mod Mirrors
+pub mod Solved
+pub mod LeastJobs
+pub mod Starting

@@ -1,0 +1,2 @@
+pub mod LeastEquations
+pub mod Lowering
