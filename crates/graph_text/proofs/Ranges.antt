@@ -10,8 +10,8 @@ use Rattle.graph_text.specs.declared.fault.Why.TheVariants as causes
 use Rattle.graph_text.specs.declared.statement.Question.{Question}
 use Rattle.graph_text.specs.declared.statement.Question.TheVariants.{Distances}
 use Rattle.graph_text.specs.declared.statement.Statement.{Statement}
-use Rattle.graph_text.specs.declared.statement.Statement.TheVariants.{Nothing, Joins, Asks}
-use Rattle.graph_text.specs.Statements.{Range, is_in, are_in, word32, cons_number, numbers_of, statement_in, made_of, first, Form, completed, statement_by, edge_form, one_word_forms, query_forms, second_word_forms, statement_if, statement_among, keyword_statement, begins_with_digit, is_comment, statement_of}
+use Rattle.graph_text.specs.declared.statement.Statement.TheVariants.{Nothing, Joins, Vertex, Asks, Fragments, Cuts}
+use Rattle.graph_text.specs.Statements.{Range, is_in, are_in, word32, fragment_count, cons_number, numbers_of, statement_in, made_of, first, second, Form, completed, statement_by, edge_form, one_word_forms, query_forms, cut_forms, second_word_forms, statement_if, statement_among, keyword_statement, begins_with_digit, is_comment, statement_of}
 
 abbrev pub AsksInRange : Question → Type 0
 AsksInRange (Distances source) = source < 2 ^ 32
@@ -19,7 +19,10 @@ AsksInRange (Distances source) = source < 2 ^ 32
 abbrev pub InRange : Statement → Type 0
 InRange Nothing = ⊤
 InRange (Joins edge) = (edge.from < 2 ^ 32) × (edge.to < 2 ^ 32) × (edge.weight < 2 ^ 32)
+InRange (Vertex number label) = (number < 2 ^ 32) × (label < 2 ^ 32)
 InRange (Asks q) = AsksInRange q
+InRange (Fragments n) = (1 ≤ n) × (n ≤ 64)
+InRange (Cuts c) = ⊤
 
 pub OkInRange : Result Statement Why → Type 0
 OkInRange r = IfOk r InRange
@@ -73,6 +76,16 @@ makes_one r make h [] l e = absurd (let x : 0 ≡ 1 = l in omega (arith, x))
 makes_one r make h (n ∷ []) l e = let i : (r.low ≤ n) × (n ≤ r.high) = in_range r n (and_left (is_in r n) true e) in h n i.0 i.1
 makes_one r make h (n ∷ m ∷ ns) l e = absurd (let x : suc (suc (length ns)) ≡ 1 = l in omega (arith, x))
 
+makes_two : (r s : Range) (make : List ℕ → Statement) → ((n m : ℕ) → r.low ≤ n → n ≤ r.high → s.low ≤ m → m ≤ s.high → InRange (make (n ∷ m ∷ []))) → Makes (r ∷ s ∷ []) make
+unfolding Makes
+makes_two r s make h [] l e = absurd (let x : 0 ≡ 2 = l in omega (arith, x))
+makes_two r s make h (n ∷ []) l e = absurd (let x : 1 ≡ 2 = l in omega (arith, x))
+makes_two r s make h (n ∷ m ∷ []) l e =
+    let i : (r.low ≤ n) × (n ≤ r.high) = in_range r n (and_left (is_in r n) (is_in s m && true) e)
+    in let j : (s.low ≤ m) × (m ≤ s.high) = in_range s m (and_left (is_in s m) true (and_right (is_in r n) (is_in s m && true) e))
+    in h n m i.0 i.1 j.0 j.1
+makes_two r s make h (n ∷ m ∷ k ∷ ns) l e = absurd (let x : suc (suc (suc (length ns))) ≡ 2 = l in omega (arith, x))
+
 makes_three : (r s t : Range) (make : List ℕ → Statement)
     → ((n m k : ℕ) → r.low ≤ n → n ≤ r.high → s.low ≤ m → m ≤ s.high → t.low ≤ k → k ≤ t.high → InRange (make (n ∷ m ∷ k ∷ []))) → Makes (r ∷ s ∷ t ∷ []) make
 unfolding Makes
@@ -97,6 +110,16 @@ edge_makes = makes_three word32 word32 word32 edge_form.says (λ n m k a b c d e
 queries_make : AllByRecursion FormMakes query_forms
 queries_make = (makes_one word32 (λ ns. Asks (Distances (first ns))) (λ n a b. omega (arith, b)), tt)
 
+one_words_make : AllByRecursion FormMakes one_word_forms
+one_words_make = (
+  makes_two word32 word32 (λ ns. Vertex (first ns) (second ns)) (λ n m a b c d. (omega (arith, b), omega (arith, d))),
+  (makes_one fragment_count (λ ns. Fragments (first ns)) (λ n a b. (a, b)), tt),
+)
+
+cuts_make : AllByRecursion FormMakes cut_forms
+unfolding Makes
+cuts_make = ((λ ns l e. tt), ((λ ns l e. tt), tt))
+
 found_step : (c : Bool) (form : Form) (o : Option Form) (words : List (List ℕ)) → FormMakes form → OkInRange (statement_if o words) → OkInRange (statement_if (cond c (Some form) o) words)
 found_step true form o words h k = made_ok form.ranges form.says (completed form.last (length form.ranges) words) h
 found_step false form o words h k = k
@@ -111,15 +134,16 @@ unfolding OkInRange
 among_in forms [] h = tt
 among_in forms (word ∷ words) h = found_in (λ form. bytes_eq word form.keyword) forms words h
 
-keyword_step : (b : Bool) (word : List ℕ) (words : List (List ℕ)) → OkInRange (keyword_statement (cond b (Some query_forms) None) word words)
-keyword_step true word words = among_in query_forms words queries_make
-keyword_step false word words = among_in one_word_forms (word ∷ words) tt
+keyword_step : (b c : Bool) (word : List ℕ) (words : List (List ℕ)) → OkInRange (keyword_statement (cond b (Some query_forms) (cond c (Some cut_forms) None)) word words)
+keyword_step true c word words = among_in query_forms words queries_make
+keyword_step false true word words = among_in cut_forms words cuts_make
+keyword_step false false word words = among_in one_word_forms (word ∷ words) one_words_make
 
 line_step : (b c : Bool) (word : List ℕ) (words : List (List ℕ)) → OkInRange (cond b (Ok Nothing) (cond c (statement_by edge_form (word ∷ words)) (keyword_statement (second_word_forms word) word words)))
 unfolding OkInRange
 line_step true c word words = tt
 line_step false true word words = made_ok edge_form.ranges edge_form.says (completed edge_form.last 3 (word ∷ words)) edge_makes
-line_step false false word words = keyword_step (bytes_eq word (codes "query")) word words
+line_step false false word words = keyword_step (bytes_eq word (codes "query")) (bytes_eq word (codes "cut")) word words
 
 -- what a line says has its numbers in range
 pub statement_is_in_range : (words : List (List ℕ)) → OkInRange (statement_of words)

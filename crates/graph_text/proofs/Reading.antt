@@ -237,6 +237,12 @@ pub piece-front : (text taken end others rest piece : List ℕ) → taken ++ res
 piece-front text taken end others rest piece e h =
     append_assoc (text ++ taken) end others ∙ append_assoc text taken (end ++ others) ∙ ap (λ l. text ++ (taken ++ l)) h ∙ ap (λ l. text ++ l) e
 
+-- behind the lines of a piece comes its rest
+pub text-rest : (r : Result (Unit {0}) TextFault) (t between after : TextState) (taken rest piece : List ℕ) → taken ++ rest ≡ piece → ((text : List ℕ) → HasText t text → HasText between (text ++ taken))
+    → OnOk r ((text : List ℕ) → HasText between text → HasText after (text ++ rest)) → OnOk r ((text : List ℕ) → HasText t text → HasText after (text ++ piece))
+text-rest (Err f) t between after taken rest piece e reads ok = tt
+text-rest (Ok u) t between after taken rest piece e reads ok = λ text h. subst (HasText after) (append_assoc text taken rest ∙ ap (λ l. text ++ l) e) (ok (text ++ taken) (reads text h))
+
 -- The end of the text.
 
 pub first-last : (lines : List (List ℕ)) (line : List ℕ) → HasNoLineFeed line → 0 < length line → first_bad cause_of lines (lines_of line) ≡ option_map (bad (length lines + 1)) (cause_of lines line)

@@ -1,27 +1,25 @@
 -- What has been gathered of the statements so far.
-use Rattle.std.specs.Prelude.{◌≡◌, ℕ, ◌<◌, false, List, [], ◌∷◌, filter_map, ⊤}
-use Rattle.std.specs.List.Sorted.{IsPermutation}
+use Rattle.std.specs.Prelude.{◌≡◌, ℕ, ◌==◌, false, List, filter_map, Option, Some, None}
+use Rattle.std.specs.List.{list_any}
 use Rattle.graph_text.specs.declared.statement.Statement.{Statement}
+use Rattle.graph_text.specs.declared.statement.Statement.TheVariants.{Vertex}
+use Rattle.graph_text.specs.NumberSets.{is_among}
 use Rattle.graph_text.specs.ReaderState.{GatheredState}
-use Rattle.graph_text.specs.Input.{vertex_numbers, are_too_many, first_of, question_in, edge_in}
+use Rattle.graph_text.specs.Input.{vertex_numbers, are_too_many, first_of, question_in, fragments_in, cut_in, edge_in}
 
--- each number is larger than the one before it
-abbrev pub RisesOver : ℕ → List ℕ → Type 0
-RisesOver low [] = ⊤
-RisesOver low (n ∷ ns) = (low < n) × RisesOver n ns
+-- the vertex and the label that a statement names
+abbrev pub vertex_in : Statement → Option (ℕ × ℕ)
+vertex_in (Vertex number label) = Some (number, label)
+vertex_in s = None
 
-abbrev pub DoRise : List ℕ → Type 0
-DoRise [] = ⊤
-DoRise (n ∷ ns) = RisesOver n ns
-
--- the keys are these rising numbers, in some order
-pub record AreNumbers (keys ns : List ℕ) : Type 0 where
-  pub rising : DoRise ns
-  pub same : IsPermutation keys ns
-
--- It holds the query, the edges in their order, and each vertex number once, of statements that are not too many.
+-- It holds the query and the settings, the edges and the labels in their order, each vertex number once, and which of
+-- them were given a label, of statements that are not too many.
 pub record Holds (g : GatheredState) (ss : List Statement) : Type 0 where
   pub query : g.query ≡ first_of question_in ss
+  pub fragments : g.fragments ≡ first_of fragments_in ss
+  pub cut : g.cut ≡ first_of cut_in ss
   pub edges : g.edges ≡ filter_map edge_in ss
-  pub numbers : AreNumbers g.numbers (vertex_numbers ss)
+  pub numbers : g.numbers ≡ vertex_numbers ss
+  pub labels : g.labels ≡ filter_map vertex_in ss
+  pub labelled : (k : ℕ) → is_among k g.labelled ≡ list_any (λ v. v.0 == k) g.labels
   pub few : are_too_many ss ≡ false

@@ -1,11 +1,12 @@
 -- Which texts are an input, and which job each of them is.
-use Rattle.std.specs.Prelude.{ℕ, ◌+◌, ◌==◌, Bool, true, false, ◌||◌, nat_lt, if◌then◌else◌, List, [], ◌∷◌, ◌++◌, length, map, filter_map, count_by, Option, Some, None, option_map, Result, Ok, Err, ⊤}
+use Rattle.std.specs.Prelude.{ℕ, ◌+◌, ◌==◌, Bool, true, false, ◌||◌, nat_lt, if◌then◌else◌, List, [], ◌∷◌, ◌++◌, length, map, filter_map, count_by, Option, Some, None, unwrap_or, option_map, Result, Ok, Err, ⊤}
 use Rattle.std.specs.List.{list_any}
 use Rattle.std.specs.Option.{option_or}
 use Rattle.std.specs.Result.{result_ok}
 use Rattle.graph_core.specs.declared.edge.Edge.{Edge}
 use Rattle.graph_core.specs.declared.query.Query.{Query}
 use Rattle.graph_core.specs.declared.query.Query.TheVariants as query
+use Rattle.graph_core.specs.declared.settings.Cut.{Cut}
 use Rattle.graph_core.specs.declared.settings.Cut.TheVariants as cut
 use Rattle.graph_core.specs.declared.settings.Policy.TheVariants as policy
 use Rattle.graph_core.specs.declared.settings.Settings.{Settings}
@@ -17,8 +18,9 @@ use Rattle.graph_text.specs.Lines.{lines_of, words_of, is_ended, is_too_long}
 use Rattle.graph_text.specs.declared.statement.Question.{Question}
 use Rattle.graph_text.specs.declared.statement.Question.TheVariants.{Distances}
 use Rattle.graph_text.specs.declared.statement.Statement.{Statement}
-use Rattle.graph_text.specs.declared.statement.Statement.TheVariants.{Joins, Asks}
+use Rattle.graph_text.specs.declared.statement.Statement.TheVariants.{Joins, Vertex, Asks, Fragments, Cuts}
 use Rattle.graph_text.specs.Statements.{statement_of}
+use Rattle.graph_text.specs.NumberSets.{insert_number, is_among}
 
 -- a line by its number, from 1, and why it is bad
 pub record BadLine : Type 0 where
@@ -32,23 +34,23 @@ bad line why = record { line = line; why = why }
 abbrev pub statements_of : List (List ℕ) → List Statement
 statements_of lines = filter_map (λ line. result_ok (statement_of (words_of line))) lines
 
--- The vertices: the numbers that stand in edges, in rising order, each once.
-
-abbrev pub insert_number : ℕ → List ℕ → List ℕ
-insert_number n [] = n ∷ []
-insert_number n (m ∷ ms) = if nat_lt n m then n ∷ m ∷ ms else if n == m then m ∷ ms else m ∷ insert_number n ms
+-- The vertices: the numbers that stand in edge and vertex lines, in rising order, each once.
 
 abbrev pub numbers_with : Statement → List ℕ → List ℕ
 numbers_with (Joins edge) ns = insert_number edge.from (insert_number edge.to ns)
+numbers_with (Vertex number label) ns = insert_number number ns
 numbers_with s ns = ns
 
 abbrev pub vertex_numbers : List Statement → List ℕ
 vertex_numbers [] = []
 vertex_numbers (s ∷ ss) = numbers_with s (vertex_numbers ss)
 
--- The query may stand on one line alone.
+-- Each of these may stand on one line alone: the query, a setting, the label of a vertex.
 abbrev pub repeats : Statement → Statement → Bool
 repeats (Asks q) (Asks r) = true
+repeats (Fragments m) (Fragments n) = true
+repeats (Cuts c) (Cuts d) = true
+repeats (Vertex m k) (Vertex n l) = m == n
 repeats s t = false
 
 abbrev pub is_edge : Statement → Bool
@@ -101,23 +103,47 @@ abbrev pub edge_in : Statement → Option Edge
 edge_in (Joins edge) = Some edge
 edge_in s = None
 
--- the settings of every job, since no line gives one yet: one fragment on one lane, and no snapshots
-abbrev pub SETTINGS : Settings
-SETTINGS = record { fragments = 1; lanes = 1; cut = cut.Hash; policy = policy.Ap; snapshot = 0 }
+abbrev pub fragments_in : Statement → Option ℕ
+fragments_in (Fragments n) = Some n
+fragments_in s = None
 
--- the vertices with their labels, which are 0, since no line gives one yet
+abbrev pub cut_in : Statement → Option Cut
+cut_in (Cuts c) = Some c
+cut_in s = None
+
+abbrev pub label_in : ℕ → Statement → Option ℕ
+label_in number (Vertex n label) = if n == number then Some label else None
+label_in number s = None
+
+-- The settings, with what holds where a line is missing: 4 fragments, cut by a hash. No line gives the others yet: one
+-- lane, where no fragment waits for another, and no snapshots.
+abbrev pub settings_of : List Statement → Settings
+settings_of ss =
+    record {
+      fragments = unwrap_or (first_of fragments_in ss) 4;
+      lanes = 1;
+      cut = unwrap_or (first_of cut_in ss) cut.Hash;
+      policy = policy.Ap;
+      snapshot = 0;
+    }
+
+-- the label that a line gives to the vertex with this number, or 0
+abbrev pub label_of : List Statement → ℕ → ℕ
+label_of ss number = unwrap_or (first_of (label_in number) ss) 0
+
+-- the vertices with their labels
 abbrev pub vertices_of : List Statement → List (ℕ × ℕ)
-vertices_of ss = map (λ number. (number, 0)) (vertex_numbers ss)
+vertices_of ss = map (λ number. (number, label_of ss number)) (vertex_numbers ss)
 
 abbrev pub query_of : Question → Query
 query_of (Distances source) = query.Dist source
 
 abbrev pub job_of : List Statement → Question → Job
-job_of ss q = record { graph = graph_of (vertices_of ss) (filter_map edge_in ss); query = query_of q; settings = SETTINGS }
+job_of ss q = record { graph = graph_of (vertices_of ss) (filter_map edge_in ss); query = query_of q; settings = settings_of ss }
 
 -- what a query needs and the lines lack: its source among the vertices
 abbrev pub missing_for : List Statement → Question → Option Why
-missing_for ss (Distances source) = if list_any (λ n. n == source) (vertex_numbers ss) then None else Some causes.NoSource
+missing_for ss (Distances source) = if is_among source (vertex_numbers ss) then None else Some causes.NoSource
 
 -- the job that good lines make, or the cause why they make none
 abbrev pub job_unless : List Statement → Question → Option Why → Result Job Why

@@ -1,6 +1,7 @@
 -- A reader of lines as its callers see it.
 use Rattle.std.specs.Prelude.{ℕ, List, Option}
 use Rattle.graph_core.specs.declared.edge.Edge.{Edge}
+use Rattle.graph_core.specs.declared.settings.Cut.{Cut}
 use Rattle.graph_text.specs.declared.fault.TextFault.{TextFault}
 use Rattle.graph_text.specs.declared.statement.Question.{Question}
 use Rattle.graph_text.specs.declared.gathered.Gathered.{Gathered}
@@ -10,11 +11,15 @@ use Rattle.graph_text.specs.declared.open_text.OpenText.{OpenText}
 -- what is kept of the statements
 pub record GatheredState : Type 0 where
   pub query : Option Question
+  pub fragments : Option ℕ
+  pub cut : Option Cut
   pub edges : List Edge
   pub numbers : List ℕ
+  pub labels : List (ℕ × ℕ)
+  pub labelled : List ℕ
 
 abbrev pub gathered_state : Gathered → GatheredState
-gathered_state g = record { query = g.query; edges = g.edges.items; numbers = g.numbers.keys }
+gathered_state g = record { query = g.query; fragments = g.fragments; cut = g.cut; edges = g.edges.items; numbers = g.numbers; labels = g.labels.items; labelled = g.labelled }
 
 -- what is kept of the lines
 pub record LinesState : Type 0 where

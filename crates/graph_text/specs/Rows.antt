@@ -2,8 +2,14 @@
 use Rattle.std.specs.Prelude.{[], ◌∷◌}
 use Rattle.graph_core.specs.declared.query.Query.TheVariants as query
 use Rattle.graph_core.specs.declared.job.Job.{Job}
+use Rattle.graph_core.specs.declared.settings.Cut.TheVariants as cut
+use Rattle.graph_core.specs.declared.settings.Policy.TheVariants as policy
+use Rattle.graph_core.specs.declared.settings.Settings.{Settings}
 use Rattle.graph_core.specs.Rows.{edge_of}
-use Rattle.graph_text.specs.Input.{SETTINGS}
+
+-- the settings where no line gives one
+abbrev pub unset : Settings
+unset = record { fragments = 4; lanes = 1; cut = cut.Hash; policy = policy.Ap; snapshot = 0 }
 
 -- distances on three vertices, with a detour that is shorter
 abbrev pub detour_job : Job
@@ -11,7 +17,7 @@ detour_job =
     record {
       graph = record { vertices = (1, 0) ∷ (2, 0) ∷ (3, 0) ∷ []; edges = edge_of 0 1 5 ∷ edge_of 0 2 9 ∷ edge_of 1 2 1 ∷ [] };
       query = query.Dist 1;
-      settings = SETTINGS;
+      settings = unset;
     }
 
 -- distances over an edge to and fro
@@ -20,5 +26,18 @@ to_and_fro =
     record {
       graph = record { vertices = (0, 0) ∷ (11342, 0) ∷ []; edges = edge_of 0 1 1 ∷ edge_of 1 0 1 ∷ [] };
       query = query.Dist 0;
-      settings = SETTINGS;
+      settings = unset;
+    }
+
+-- a vertex without an edge
+abbrev pub alone_job : Job
+alone_job = record { graph = record { vertices = (7, 0) ∷ []; edges = [] }; query = query.Dist 7; settings = unset }
+
+-- vertices with labels, on two fragments by index
+abbrev pub labelled_job : Job
+labelled_job =
+    record {
+      graph = record { vertices = (2, 9) ∷ (3, 0) ∷ (5, 0) ∷ (8, 1) ∷ []; edges = edge_of 1 0 1 ∷ edge_of 2 3 4 ∷ [] };
+      query = query.Dist 3;
+      settings = record { fragments = 2; lanes = 1; cut = cut.Range; policy = policy.Ap; snapshot = 0 };
     }

@@ -2,11 +2,12 @@
 use Rattle.std.specs.Prelude.{ℕ, ◌+◌, ◌-◌, ◌^◌, ◌==◌, Bool, false, ◌&&◌, ◌||◌, nat_le, if◌then◌else◌, List, [], ◌∷◌, ◌++◌, length, slice_index, Option, Some, None, Result, Ok, Err, codes, bytes_eq, zip, find}
 use Rattle.std.specs.List.{list_all}
 use Rattle.grape_port.specs.Decimal.{is_digit, number_of}
+use Rattle.graph_core.specs.declared.settings.Cut.TheVariants as cut
 use Rattle.graph_text.specs.declared.fault.Why.{Why}
 use Rattle.graph_text.specs.declared.fault.Why.TheVariants as causes
 use Rattle.graph_text.specs.declared.statement.Question.TheVariants.{Distances}
 use Rattle.graph_text.specs.declared.statement.Statement.{Statement}
-use Rattle.graph_text.specs.declared.statement.Statement.TheVariants.{Nothing, Joins, Asks}
+use Rattle.graph_text.specs.declared.statement.Statement.TheVariants.{Nothing, Joins, Vertex, Asks, Fragments, Cuts}
 
 -- the numbers from the first to the second one
 pub record Range : Type 0 where
@@ -16,9 +17,13 @@ pub record Range : Type 0 where
 abbrev pub is_in : Range → ℕ → Bool
 is_in r n = nat_le r.low n && nat_le n r.high
 
--- vertex numbers and weights
+-- vertex numbers, labels and weights
 abbrev pub word32 : Range
 word32 = record { low = 0; high = 2 ^ 32 - 1 }
+
+-- how many fragments there may be
+abbrev pub fragment_count : Range
+fragment_count = record { low = 1; high = 64 }
 
 -- the numbers that the words are, if each is one
 abbrev pub cons_number : Option ℕ → Option (List ℕ) → Option (List ℕ)
@@ -79,17 +84,31 @@ edge_form =
       last = Some (codes "1");
     }
 
--- the forms that the first word names alone: none is built yet
+-- the forms that the first word names alone: a vertex with its label, which is 0 where it is left out, and a count of
+-- fragments
 abbrev pub one_word_forms : List Form
-one_word_forms = []
+one_word_forms =
+    record { keyword = codes "v"; ranges = word32 ∷ word32 ∷ []; says = λ ns. Vertex (first ns) (second ns); last = Some (codes "0") }
+    ∷ record { keyword = codes "fragments"; ranges = fragment_count ∷ []; says = λ ns. Fragments (first ns); last = None }
+    ∷ []
 
 -- the forms that the word behind `query` names
 abbrev pub query_forms : List Form
 query_forms = record { keyword = codes "dist"; ranges = word32 ∷ []; says = λ ns. Asks (Distances (first ns)); last = None } ∷ []
 
+-- the forms that the word behind `cut` names
+abbrev pub cut_forms : List Form
+cut_forms =
+    record { keyword = codes "range"; ranges = []; says = λ ns. Cuts cut.Range; last = None }
+    ∷ record { keyword = codes "hash"; ranges = []; says = λ ns. Cuts cut.Hash; last = None }
+    ∷ []
+
 -- the forms of the second word, behind a first word that needs one
 abbrev pub second_word_forms : List ℕ → Option (List Form)
-second_word_forms word = if bytes_eq word (codes "query") then Some query_forms else None
+second_word_forms word =
+    if bytes_eq word (codes "query") then Some query_forms
+    else if bytes_eq word (codes "cut") then Some cut_forms
+    else None
 
 -- what the words say by the form that their first word names
 abbrev pub statement_if : Option Form → List (List ℕ) → Result Statement Why

@@ -4,13 +4,13 @@ use std::alloc::{AllocError, AllocFailed};
 /// Why a line is bad.
 #[derive(Clone, Copy, Debug, PartialEq, Eq)]
 pub enum Why {
-    /// The first word, or the one behind `query`, is none that is built.
+    /// The first word, or the one behind `query` or `cut`, is none that is built.
     Word,
     /// A word in the place of a number is none below 2^64.
     Number,
     /// The line has more or fewer words than its form.
     Count,
-    /// A number lies outside its range, 0 to 4,294,967,295.
+    /// A number lies outside its range: 1 to 64 for fragments, 0 to 4,294,967,295 for all others.
     Range,
     /// The line repeats one that may stand once.
     Twice,
@@ -18,7 +18,7 @@ pub enum Why {
     TooMany,
     /// The line behind the last: there is no query.
     NoQuery,
-    /// The line behind the last: the query's vertex stands in no edge.
+    /// The line behind the last: the query's vertex stands in no edge, and on no line of its own.
     NoSource,
     /// The line behind the last: the query's pattern isn't whole.
     NoPattern,

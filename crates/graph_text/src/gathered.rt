@@ -1,18 +1,17 @@
-ghost use Rattle.std.specs.Prelude.{◌≡◌, ℕ, ◌+◌, nat_eq, List, [], ◌∷◌, ◌++◌, length, map, filter_map, Ok, option_map, OnOk, IfOk, IfErr};
-ghost use Rattle.std.specs.List.{IsDistinct};
+ghost use Rattle.std.specs.Prelude.{◌≡◌, ℕ, ◌+◌, List, [], ◌∷◌, ◌++◌, length, filter_map, Ok, None, Some, IsSome, option_map, OnOk, IfOk, IfErr};
 ghost use Rattle.graph_core.specs.Graphs.{IsJob, MakeGraph, graph_of};
 ghost use Rattle.graph_text.specs.declared.statement.Statement.{Statement as Said};
-ghost use Rattle.graph_text.specs.Input.{bad, insert_number, cause_among, statements_of, first_bad, cause_of, job_of_lines, vertices_of, query_of, missing_for, edge_in, IsBuilt};
+ghost use Rattle.graph_text.specs.Input.{bad, cause_among, statements_of, first_bad, cause_of, job_of_lines, vertices_of, settings_of, query_of, missing_for, edge_in, IsBuilt};
 ghost use Rattle.graph_text.specs.ReaderState.{gathered_state};
-ghost use Rattle.graph_text.specs.Gathering.{Holds, AreNumbers};
+ghost use Rattle.graph_text.specs.Gathering.{Holds};
 ghost use Rattle.graph_text.specs.Reader.{Answers, Gives};
 
 use crate::fault::{TextFault, Why};
+use crate::labels::with_labels;
+use crate::number_set::NumberSet;
 use crate::statement::{Question, Statement};
-use grape_port::NoMemory;
 use graph_core::{Cut, Edge, Graph, Job, Policy, Query, Settings};
 use std::alloc::Global;
-use std::collections::HashSet;
 
 /// The most edge lines.
 const MAX_EDGES: usize = 4_000_000;
@@ -20,14 +19,23 @@ const MAX_EDGES: usize = 4_000_000;
 /// The most vertices.
 const MAX_VERTICES: usize = 1_000_000;
 
+/// The count of fragments where no line gives one.
+const DEFAULT_FRAGMENTS: u32 = 4;
+
 /// What the lines so far have said.
 #[derive(Drop)]
 pub(crate) struct Gathered {
     query: Option<Question>,
+    fragments: Option<u32>,
+    cut: Option<Cut>,
     /// In the order of their lines, by vertex numbers.
     edges: Vec<Edge>,
-    /// The vertices: each number that stands in an edge.
-    numbers: HashSet<u32>,
+    /// The vertices: each number that stands in an edge or beside a label.
+    numbers: NumberSet,
+    /// The vertices with a line of their own and their labels, in the order of these lines.
+    labels: Vec<(u32, u32)>,
+    /// The numbers that stand in `labels`.
+    labelled: NumberSet,
 }
 
 impl Gathered {
@@ -37,8 +45,12 @@ impl Gathered {
     {
         Gathered {
             query: None,
+            fragments: None,
+            cut: None,
             edges: Vec::new(alloc),
-            numbers: HashSet::new(alloc),
+            numbers: NumberSet::new(alloc),
+            labels: Vec::new(alloc),
+            labelled: NumberSet::new(alloc),
         }
     }
 
@@ -50,20 +62,29 @@ impl Gathered {
         match statement {
             Statement::Nothing => Ok(()),
             Statement::Joins(edge) => self.join(line, edge),
-            Statement::Asks(question) => self.ask(line, question),
+            Statement::Vertex { number, label } => self.label(line, number, label),
+            Statement::Asks(question) => keep_once(&mut self.query, question, line),
+            Statement::Fragments(count) => keep_once(&mut self.fragments, count, line),
+            Statement::Cuts(cut) => keep_once(&mut self.cut, cut, line),
         }
     }
 
-    /// Takes the query. A second one is bad.
-    fn ask(&mut self, line: u64, question: Question) -> Result<(), TextFault>
-        ensures answer { (ss : List Said) → Holds (gathered_state self.old) ss → Answers result (option_map (bad line) (cause_among ss (Ok (Statement.Asks question)))) }
-        ensures ok { OnOk result ((ss : List Said) → Holds (gathered_state self.old) ss → Holds (gathered_state self.new) (ss ++ Statement.Asks question ∷ [])) }
+    /// Takes a vertex with its label. A second line of the vertex is bad, and so is one vertex too many.
+    fn label(&mut self, line: u64, number: u32, label: u32) -> Result<(), TextFault>
+        ensures answer { (ss : List Said) → Holds (gathered_state self.old) ss → Answers result (option_map (bad line) (cause_among ss (Ok (Statement.Vertex number label)))) }
+        ensures ok { OnOk result ((ss : List Said) → Holds (gathered_state self.old) ss → Holds (gathered_state self.new) (ss ++ Statement.Vertex number label ∷ [])) }
     {
-        let why = Why::Twice;
-        if self.query.is_some() {
+        let is_first = self.labelled.insert(number)?;
+        if !is_first {
+            let why = Why::Twice;
             return Err(TextFault::Bad { line, why });
         }
-        self.query = Some(question);
+        self.numbers.insert(number)?;
+        if self.numbers.len() > MAX_VERTICES {
+            let why = Why::TooMany;
+            return Err(TextFault::Bad { line, why });
+        }
+        self.labels.push((number, label))?;
         Ok(())
     }
 
@@ -76,8 +97,8 @@ impl Gathered {
         if self.edges.len() >= MAX_EDGES {
             return Err(TextFault::Bad { line, why });
         }
-        add_number(&mut self.numbers, edge.to)?;
-        add_number(&mut self.numbers, edge.from)?;
+        self.numbers.insert(edge.to)?;
+        self.numbers.insert(edge.from)?;
         if self.numbers.len() > MAX_VERTICES {
             return Err(TextFault::Bad { line, why });
         }
@@ -101,13 +122,7 @@ impl Gathered {
         }
         let graph = self.graph()?;
         let query = query_of(question);
-        let settings = Settings {
-            fragments: 1,
-            lanes: 1,
-            cut: Cut::Hash,
-            policy: Policy::Ap,
-            snapshot: 0,
-        };
+        let settings = self.settings();
         Ok(Job {
             graph,
             query,
@@ -119,34 +134,50 @@ impl Gathered {
     fn missing_for(&self, question: Question) -> Option<Why>
         ensures { (ss : List Said) → Holds (gathered_state self.now) ss → result ≡ missing_for ss question }
     {
-        let source = source_of(question);
-        if self.numbers.contains(&source) {
+        if self.numbers.contains(source_of(question)) {
             None
         } else {
             Some(Why::NoSource)
         }
     }
 
-    /// The graph of the edges.
+    /// The settings that the lines give, and what holds where a line is missing.
+    fn settings(&self) -> Settings
+        ensures { (ss : List Said) → Holds (gathered_state self.now) ss → result ≡ settings_of ss }
+    {
+        Settings {
+            fragments: self.fragments.unwrap_or(DEFAULT_FRAGMENTS),
+            lanes: 1,
+            cut: self.cut.unwrap_or(Cut::Hash),
+            policy: Policy::Ap,
+            snapshot: 0,
+        }
+    }
+
+    /// The graph of the vertices and edges.
     fn graph(&self) -> Result<Graph, TextFault>
         requires { (ss : List Said) × Holds (gathered_state self.now) ss × MakeGraph (vertices_of ss) (filter_map edge_in ss) }
         ensures ok { IfOk result (λ graph. (ss : List Said) → Holds (gathered_state self.now) ss → graph ≡ graph_of (vertices_of ss) (filter_map edge_in ss)) }
         ensures err { IfErr result (λ fault. fault ≡ TextFault.NoMemory) }
     {
         let alloc = *self.edges.allocator();
-        let numbers = sorted_numbers(alloc, &self.numbers)?;
-        let vertices = without_labels(alloc, &numbers)?;
+        let numbers = self.numbers.sorted(alloc)?;
+        let vertices = with_labels(alloc, &numbers, &self.labels)?;
         let graph = Graph::build(alloc, &vertices, &self.edges)?;
         Ok(graph)
     }
 }
 
-/// Adds a number, if it isn't there yet.
-fn add_number(numbers: &mut HashSet<u32>, number: u32) -> Result<(), TextFault>
-    ensures ok { OnOk result ((ns : List ℕ) → AreNumbers numbers.old.keys ns → AreNumbers numbers.new.keys (insert_number number ns)) }
-    ensures err { IfErr result (λ fault. fault ≡ TextFault.NoMemory) }
+/// Keeps what this line says, where no line said the like. Else the line is bad.
+fn keep_once<T: Drop>(kept: &mut Option<T>, said: T, line: u64) -> Result<(), TextFault>
+    ensures first { OnOk result ((kept.old ≡ None) × (kept.new ≡ Some said)) }
+    ensures second { IfErr result (λ fault. (fault ≡ TextFault.Bad line Why.Twice) × IsSome kept.old) }
 {
-    numbers.insert(number)?;
+    if kept.is_some() {
+        let why = Why::Twice;
+        return Err(TextFault::Bad { line, why });
+    }
+    *kept = Some(said);
     Ok(())
 }
 
@@ -166,33 +197,4 @@ fn query_of(question: Question) -> Query
     match question {
         Question::Distances(source) => Query::Dist(source),
     }
-}
-
-/// The numbers in rising order.
-fn sorted_numbers(alloc: Global, numbers: &HashSet<u32>) -> Result<Vec<u32>, TextFault>
-    ensures ok { IfOk result (λ sorted. (ns : List ℕ) → AreNumbers numbers.now.keys ns → sorted.items ≡ ns) }
-    ensures err { IfErr result (λ fault. fault ≡ TextFault.NoMemory) }
-{
-    let mut sorted = listed(alloc, numbers)?;
-    sorted.sort_unstable();
-    Ok(sorted)
-}
-
-/// The numbers of a set.
-fn listed(alloc: Global, numbers: &HashSet<u32>) -> Result<Vec<u32>, TextFault>
-    ensures all { IfOk result (λ list. list.items ≡ numbers.now.keys) }
-    ensures each_once { IfOk result (λ list. IsDistinct nat_eq list.items) }
-    ensures err { IfErr result (λ fault. fault ≡ TextFault.NoMemory) }
-{
-    let list = numbers.iter().copied().collect(alloc)?;
-    Ok(list)
-}
-
-/// The vertices with these numbers and the label 0.
-fn without_labels(alloc: Global, numbers: &[u32]) -> Result<Vec<(u32, u32)>, TextFault>
-    ensures ok { IfOk result (λ vertices. vertices.items ≡ map (λ number. (number, 0)) numbers.now) }
-    ensures err { IfErr result (λ fault. fault ≡ TextFault.NoMemory) }
-{
-    let vertices = numbers.iter().map(|number| (*number, 0)).collect(alloc)?;
-    Ok(vertices)
 }

@@ -4,14 +4,17 @@
 //! the piece that ends it, or that makes it too long. It keeps what the lines say, and of the text no more than one line
 //! that a piece cut.
 //!
-//! What the words of one line say is read without the others (module `statement`); which
-//! lines repeat another, or are too many, stands in module `gathered`.
+//! What the words of one line say is read without the others (module `statement`); which lines repeat another, or are
+//! too many, stands in module `gathered`, above a set of vertex numbers (`number_set`) and the labels beside them
+//! (`labels`).
 #![tactic(auto)]
 
 mod fault;
 mod gathered;
+mod labels;
 mod laws;
 mod line_reader;
+mod number_set;
 mod open_text;
 mod statement;
 #[cfg(test)]

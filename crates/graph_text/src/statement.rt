@@ -1,11 +1,14 @@
-ghost use Rattle.std.specs.Prelude.{◌≡◌, ◌∷◌, [], codes};
+ghost use Rattle.std.specs.Prelude.{◌≡◌, ◌==◌, ◌∷◌, [], false, length, codes, MatchOption};
 ghost use Rattle.graph_text.specs.Lines.{words_in, words_of};
-ghost use Rattle.graph_text.specs.Statements.{statement_of, statement_by, statement_among, edge_form, query_forms};
+ghost use Rattle.graph_text.specs.Statements.{statement_of, statement_by, statement_among, edge_form, one_word_forms, query_forms, cut_forms, second_word_forms, keyword_statement};
 
 use crate::fault::Why;
 use crate::words::{split_word, without_line_end};
 use grape_port::read_number;
-use graph_core::Edge;
+use graph_core::{Cut, Edge};
+
+/// The most fragments.
+const MAX_FRAGMENTS: u32 = 64;
 
 /// What a query line asks for.
 #[derive(Clone, Copy, Debug, PartialEq, Eq)]
@@ -21,8 +24,14 @@ pub enum Statement {
     Nothing,
     /// An edge, by the numbers of its two vertices.
     Joins(Edge),
+    /// A vertex, with its label.
+    Vertex { number: u32, label: u32 },
     /// The query.
     Asks(Question),
+    /// Into how many fragments the graph is cut, 1 to 64.
+    Fragments(u32),
+    /// How the graph is cut.
+    Cuts(Cut),
 }
 
 /// What a line says, with or without its line feed; or the first cause why it says nothing: an unknown word, a wrong
@@ -36,8 +45,24 @@ pub fn read_statement(line: &[u8]) -> Result<Statement, Why>
     match word {
         [b'#' | b'%', ..] => Ok(Statement::Nothing),
         [b'0'..=b'9', ..] => read_edge(word, rest),
-        b"query" => read_query(rest),
-        _ => Err(Why::Word),
+        _ => read_keyword(word, rest),
+    }
+}
+
+/// What a line says that begins with a word of letters.
+fn read_keyword(word: &[u8], rest: &[u8]) -> Result<Statement, Why>
+    ensures { result ≡ keyword_statement (second_word_forms word.now) word.now (words_in rest.now) }
+{
+    if word == b"query".as_slice() {
+        read_query(rest)
+    } else if word == b"cut".as_slice() {
+        read_cut(rest)
+    } else if word == b"v".as_slice() {
+        read_vertex(rest)
+    } else if word == b"fragments".as_slice() {
+        read_fragments(rest)
+    } else {
+        Err(Why::Word)
     }
 }
 
@@ -97,17 +122,90 @@ fn read_query(rest: &[u8]) -> Result<Statement, Why>
 fn read_distances(rest: &[u8]) -> Result<Statement, Why>
     ensures { result ≡ statement_among query_forms (codes "dist" ∷ words_in rest.now) }
 {
-    let Some((source, rest)) = split_word(rest) else {
+    let Some(source) = only_word(rest) else {
         return Err(Why::Count);
     };
-    if split_word(rest).is_some() {
-        return Err(Why::Count);
-    }
     let Some(source) = read_number(source) else {
         return Err(Why::Number);
     };
     match u32::try_from(source) {
         Ok(source) => Ok(Statement::Asks(Question::Distances(source))),
         Err(_) => Err(Why::Range),
+    }
+}
+
+/// The vertex that the words behind `v` are: its number, and its label where there are two.
+fn read_vertex(rest: &[u8]) -> Result<Statement, Why>
+    ensures { result ≡ statement_among one_word_forms (codes "v" ∷ words_in rest.now) }
+{
+    let Some((number, rest)) = split_word(rest) else {
+        return Err(Why::Count);
+    };
+    match split_word(rest) {
+        None => vertex_of(number, b"0"),
+        Some((label, rest)) => {
+            if split_word(rest).is_some() {
+                return Err(Why::Count);
+            }
+            vertex_of(number, label)
+        }
+    }
+}
+
+/// The vertex that two words are.
+fn vertex_of(number: &[u8], label: &[u8]) -> Result<Statement, Why>
+    ensures { result ≡ statement_among one_word_forms (codes "v" ∷ number.now ∷ label.now ∷ []) }
+{
+    let (Some(number), Some(label)) = (read_number(number), read_number(label)) else {
+        return Err(Why::Number);
+    };
+    match (u32::try_from(number), u32::try_from(label)) {
+        (Ok(number), Ok(label)) => Ok(Statement::Vertex { number, label }),
+        _ => Err(Why::Range),
+    }
+}
+
+/// The count of fragments that the one word behind `fragments` is.
+fn read_fragments(rest: &[u8]) -> Result<Statement, Why>
+    ensures { result ≡ statement_among one_word_forms (codes "fragments" ∷ words_in rest.now) }
+{
+    let Some(count) = only_word(rest) else {
+        return Err(Why::Count);
+    };
+    let Some(count) = read_number(count) else {
+        return Err(Why::Number);
+    };
+    match u32::try_from(count) {
+        Ok(count) if 1 <= count && count <= MAX_FRAGMENTS => Ok(Statement::Fragments(count)),
+        _ => Err(Why::Range),
+    }
+}
+
+/// The cut that the words behind `cut` are.
+fn read_cut(rest: &[u8]) -> Result<Statement, Why>
+    ensures { result ≡ statement_among cut_forms (words_in rest.now) }
+{
+    let Some((word, rest)) = split_word(rest) else {
+        return Err(Why::Count);
+    };
+    let cut = match word {
+        b"range" => Cut::Range,
+        b"hash" => Cut::Hash,
+        _ => return Err(Why::Word),
+    };
+    if split_word(rest).is_some() {
+        return Err(Why::Count);
+    }
+    Ok(Statement::Cuts(cut))
+}
+
+/// The one word of a text, or `None` where there is none or more than one.
+fn only_word(text: &[u8]) -> Option<&[u8]>
+    ensures { MatchOption result ((length (words_in text.now) == 1) ≡ false) (λ word. words_in text.now ≡ word.now ∷ []) }
+{
+    let (word, rest) = split_word(text)?;
+    match split_word(rest) {
+        None => Some(word),
+        Some(_) => None,
     }
 }

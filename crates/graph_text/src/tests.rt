@@ -2,6 +2,7 @@ use crate::{LineReader, TextFault, Why};
 use grape_port::NoMemory;
 use graph_core::{Cut, Edge, Job, Policy, Query};
 use std::alloc::Global;
+use std::process::Abort;
 use std::test::Fail;
 
 /// Feeds a text in pieces of this size.
@@ -19,13 +20,23 @@ fn read(alloc: Global, text: &[u8], size: usize) -> Result<Job, TextFault> {
     reader.finish()
 }
 
-#[test]
-fn bad_lines(rt: HostRuntime) {
-    let table: [(&[u8], u64, Why); 22] = [
+/// What a text is read as that is cut once, at this place.
+fn read_cut(alloc: Global, text: &[u8], place: usize) -> Result<Job, TextFault> {
+    let mut reader = LineReader::new(alloc)?;
+    let (front, rest) = text.split_at(place.min(text.len()));
+    reader.feed(front)?;
+    reader.feed(rest)?;
+    reader.finish()
+}
+
+// The tables stand in functions of their own, so that the proofs of the tests don't see their bytes.
+
+fn bad_table() -> [(&'static [u8], u64, Why); 22] {
+    [
         (b"hello", 1, Why::Word),
         (b"query foo", 1, Why::Word),
         (b"query label", 1, Why::Word),
-        (b"query\tdist 0\nfragments 65\n", 2, Why::Word),
+        (b"query\tdist 0\nlanes 2\n", 2, Why::Word),
         (b"-1 2", 1, Why::Word),
         (b"query", 1, Why::Count),
         (b"query dist", 1, Why::Count),
@@ -44,61 +55,208 @@ fn bad_lines(rt: HostRuntime) {
         (b"query dist 9\n1 2\n", 3, Why::NoSource),
         (b"query dist 9\n1 2", 3, Why::NoSource),
         (b"query dist 9", 2, Why::NoSource),
-    ];
+    ]
+}
+
+fn bad_settings() -> [(&'static [u8], u64, Why); 24] {
+    [
+        (b"fragment 2", 1, Why::Word),
+        (b"Fragments 2", 1, Why::Word),
+        (b"fragments", 1, Why::Count),
+        (b"fragments 2 2", 1, Why::Count),
+        (b"fragments x 2", 1, Why::Count),
+        (b"fragments x", 1, Why::Number),
+        (b"fragments -1", 1, Why::Number),
+        (b"fragments 0", 1, Why::Range),
+        (b"query dist 0\nfragments 65\n0 1\n", 2, Why::Range),
+        (b"fragments 4294967297", 1, Why::Range),
+        (b"fragments 64\nfragments 64\n", 2, Why::Twice),
+        (b"fragments 1\n1 2\nfragments 2\nhello", 3, Why::Twice),
+        (b"fragments 3\nfragments 0\nfragments 3", 2, Why::Range),
+        (b"cut", 1, Why::Count),
+        (b"cut up", 1, Why::Word),
+        (b"cut up 1", 1, Why::Word),
+        (b"cut ranges", 1, Why::Word),
+        (b"cut 1", 1, Why::Word),
+        (b"cut range 1", 1, Why::Count),
+        (b"cut hash range", 1, Why::Count),
+        (b"cut hash\ncut hash", 2, Why::Twice),
+        (b"# no cut\ncut range\r\n\ncut hash\r\n", 4, Why::Twice),
+        (b"cuts range", 1, Why::Word),
+        (b"cut range\nfragments 2\n", 3, Why::NoQuery),
+    ]
+}
+
+fn bad_vertices() -> [(&'static [u8], u64, Why); 18] {
+    [
+        (b"V 1", 1, Why::Word),
+        (b"v1", 1, Why::Word),
+        (b"v", 1, Why::Count),
+        (b"v 1 2 3", 1, Why::Count),
+        (b"v x 2 3", 1, Why::Count),
+        (b"v x", 1, Why::Number),
+        (b"v 1 x", 1, Why::Number),
+        (b"v 4294967296 x", 1, Why::Number),
+        (b"v x 4294967296", 1, Why::Number),
+        (b"v 4294967296", 1, Why::Range),
+        (b"v 4294967296 1", 1, Why::Range),
+        (b"v 1 4294967296", 1, Why::Range),
+        (b"v 3\nv 3\n", 2, Why::Twice),
+        (b"v 3 1\nv 4 1\n3 4\nv 3 2\nhello\n", 4, Why::Twice),
+        (b"3 4\nv 3\nv 03 7", 3, Why::Twice),
+        (b"v 3\nv 3 x\n", 2, Why::Number),
+        (b"query dist 9\nv 8 9\n", 3, Why::NoSource),
+        (b"v 7 0", 2, Why::NoQuery),
+    ]
+}
+
+/// Checks that each text of a table is refused at its line for its cause, however it is cut.
+fn check_refused(rt: &impl Abort, alloc: Global, table: &[(&'static [u8], u64, Why)]) {
     for (text, line, why) in table {
+        let want = Some(TextFault::Bad {
+            line: *line,
+            why: *why,
+        });
         for size in [1, 3, 64] {
-            let fault = read(rt.alloc(), text, size).err();
-            let want = Some(TextFault::Bad { line, why });
+            let fault = read(alloc, text, size).err();
             assert_eq!(rt; fault, want, "of {text:?} in pieces of {size}");
+        }
+        for place in 0..text.len() {
+            let fault = read_cut(alloc, text, place).err();
+            assert_eq!(rt; fault, want, "of {text:?} cut at {place}");
         }
     }
 }
 
 #[test]
+fn bad_lines(rt: HostRuntime) {
+    check_refused(&rt, rt.alloc(), &bad_table());
+    check_refused(&rt, rt.alloc(), &bad_settings());
+    check_refused(&rt, rt.alloc(), &bad_vertices());
+}
+
+/// What a job has: its source, settings, vertices with labels, and edges between indexes.
+#[derive(Clone, Copy)]
+struct Wanted {
+    source: u32,
+    fragments: u32,
+    cut: Cut,
+    vertices: &'static [(u32, u32)],
+    edges: &'static [(u32, u32, u32)],
+}
+
+fn job_table() -> [(&'static [u8], Wanted); 6] {
+    let plain = Wanted {
+        source: 0,
+        fragments: 4,
+        cut: Cut::Hash,
+        vertices: &[(0, 0), (11342, 0), (824020, 0)],
+        edges: &[(0, 1, 1), (0, 2, 1), (1, 0, 1)],
+    };
+    [
+        (
+            b"# Directed graph\r\n# FromNodeId\tToNodeId\r\nquery dist 0\r\n0\t11342\r\n \t\r\n0\t824020\r\n11342\t0",
+            plain,
+        ),
+        (
+            b"1 1 0\n% 7 7\n2  1\t4294967295 \n1 2 9\n\nquery dist 2\n1 2 4\n1 2 9\n",
+            Wanted {
+                source: 2,
+                vertices: &[(1, 0), (2, 0)],
+                edges: &[
+                    (0, 0, 0),
+                    (0, 1, 4),
+                    (0, 1, 9),
+                    (0, 1, 9),
+                    (1, 0, 4294967295),
+                ],
+                ..plain
+            },
+        ),
+        (
+            b"query dist 7\nv 7 0",
+            Wanted {
+                source: 7,
+                vertices: &[(7, 0)],
+                edges: &[],
+                ..plain
+            },
+        ),
+        (
+            b"v 9 3\n5 8\nv 8 4294967295\nv 4294967295\n cut\trange\nfragments 64\nv 5 007\r\n8 1 2\nquery dist 9\nv 0\t1",
+            Wanted {
+                source: 9,
+                fragments: 64,
+                cut: Cut::Range,
+                vertices: &[
+                    (0, 1),
+                    (1, 0),
+                    (5, 7),
+                    (8, 4294967295),
+                    (9, 3),
+                    (4294967295, 0),
+                ],
+                edges: &[(2, 3, 1), (3, 1, 2)],
+            },
+        ),
+        (
+            b"fragments 1\nv 1 1\nv 2 2\nv 3 3\nv 4 4\ncut hash\nquery dist 4\n3 1\n",
+            Wanted {
+                source: 4,
+                fragments: 1,
+                vertices: &[(1, 1), (2, 2), (3, 3), (4, 4)],
+                edges: &[(2, 0, 1)],
+                ..plain
+            },
+        ),
+        (
+            b"v 4 4\nv 3 3\nv 1 1\nv 2 2\nquery dist 1\nfragments 02",
+            Wanted {
+                source: 1,
+                fragments: 2,
+                vertices: &[(1, 1), (2, 2), (3, 3), (4, 4)],
+                edges: &[],
+                ..plain
+            },
+        ),
+    ]
+}
+
+fn check_job(rt: &impl Abort, alloc: Global, job: &Job, want: &Wanted) -> Result<(), Fail> {
+    assert!(rt; matches!(job.query, Query::Dist(source) if source == want.source));
+    assert_eq!(rt; job.settings.fragments, want.fragments);
+    assert_eq!(rt; job.settings.cut, want.cut);
+    assert_eq!(rt; job.settings.lanes, 1);
+    assert_eq!(rt; job.settings.policy, Policy::Ap);
+    assert_eq!(rt; job.settings.snapshot, 0);
+    let vertices: Vec<(u32, u32)> = (0..job.graph.count())
+        .map(|index| (job.graph.id(index), job.graph.label(index)))
+        .collect(alloc)?;
+    assert_eq!(rt; vertices.as_slice(), want.vertices);
+    let edges: Vec<(u32, u32, u32)> = job
+        .graph
+        .edges()
+        .iter()
+        .map(|edge| (edge.from, edge.to, edge.weight))
+        .collect(alloc)?;
+    assert_eq!(rt; edges.as_slice(), want.edges);
+    Ok(())
+}
+
+#[test]
 fn jobs(rt: HostRuntime) -> Result<(), Fail> {
-    let list =
-        b"# Directed graph\r\n# FromNodeId\tToNodeId\r\nquery dist 0\r\n0\t11342\r\n \t\r\n0\t824020\r\n11342\t0";
-    let edges = b"1 1 0\n% 7 7\n2  1\t4294967295 \n1 2 9\n\nquery dist 2\n1 2 4\n1 2 9\n";
-    let table: [(&[u8], u32, &[u32], &[(u32, u32, u32)]); 2] = [
-        (
-            list,
-            0,
-            &[0, 11342, 824020],
-            &[(0, 1, 1), (0, 2, 1), (1, 0, 1)],
-        ),
-        (
-            edges,
-            2,
-            &[1, 2],
-            &[
-                (0, 0, 0),
-                (0, 1, 4),
-                (0, 1, 9),
-                (0, 1, 9),
-                (1, 0, 4294967295),
-            ],
-        ),
-    ];
-    for (text, from, numbers, edges) in table {
+    for (text, want) in job_table() {
         for size in [1, 3, 4096] {
             let Ok(job) = read(rt.alloc(), text, size) else {
-                panic!(rt; "no job of {text:?}")
+                panic!(rt; "no job of {text:?} in pieces of {size}")
             };
-            assert!(rt; matches!(job.query, Query::Dist(source) if source == from));
-            assert_eq!(rt; job.settings.fragments, 1);
-            assert_eq!(rt; job.settings.cut, Cut::Hash);
-            assert_eq!(rt; job.settings.policy, Policy::Ap);
-            let ids: Vec<u32> = (0..job.graph.count())
-                .map(|index| job.graph.id(index))
-                .collect(rt.alloc())?;
-            assert_eq!(rt; ids.as_slice(), numbers);
-            let found: Vec<(u32, u32, u32)> = job
-                .graph
-                .edges()
-                .iter()
-                .map(|edge| (edge.from, edge.to, edge.weight))
-                .collect(rt.alloc())?;
-            assert_eq!(rt; found.as_slice(), edges);
+            check_job(&rt, rt.alloc(), &job, &want)?;
+        }
+        for place in 0..text.len() {
+            let Ok(job) = read_cut(rt.alloc(), text, place) else {
+                panic!(rt; "no job of {text:?} cut at {place}")
+            };
+            check_job(&rt, rt.alloc(), &job, &want)?;
         }
     }
     Ok(())

@@ -1,10 +1,10 @@
 ghost use Rattle.std.specs.Prelude.{◌≡◌, [], codes, replicate};
 ghost use Rattle.graph_text.specs.Input.{input_of, shown_of, bad};
-ghost use Rattle.graph_text.specs.Rows.{detour_job, to_and_fro};
+ghost use Rattle.graph_text.specs.Rows.{detour_job, to_and_fro, alone_job, labelled_job};
 
 use crate::fault::Why;
 
-/// A worked input is a job of three vertices and three edges; a bad line is found with its number and cause.
+/// Worked inputs are these jobs, and a bad line is found with its number and cause.
 pub fn rows()
     ensures job { input_of (codes "query dist 1\n1 2 5\n2 3 1\n1 3 9\n") ≡ Ok detour_job }
     ensures no_source { input_of (codes "query dist 9\n1 2\n") ≡ Err (bad 3 Why.NoSource) }
@@ -12,7 +12,21 @@ pub fn rows()
     ensures keyword { input_of (codes "hello") ≡ Err (bad 1 Why.Word) }
     ensures query_word { input_of (codes "query foo") ≡ Err (bad 1 Why.Word) }
     ensures unbuilt_query { input_of (codes "query label") ≡ Err (bad 1 Why.Word) }
-    ensures unbuilt_keyword { input_of (codes "fragments 65") ≡ Err (bad 1 Why.Word) }
+    ensures unbuilt_keyword { input_of (codes "lanes 2") ≡ Err (bad 1 Why.Word) }
+    ensures fragments { input_of (codes "fragments 65") ≡ Err (bad 1 Why.Range) }
+    ensures no_fragments { input_of (codes "fragments 0") ≡ Err (bad 1 Why.Range) }
+    ensures fragments_count { input_of (codes "fragments") ≡ Err (bad 1 Why.Count) }
+    ensures fragments_number { input_of (codes "fragments four") ≡ Err (bad 1 Why.Number) }
+    ensures second_fragments { input_of (codes "fragments 2\nfragments 2\n") ≡ Err (bad 2 Why.Twice) }
+    ensures cut_word { input_of (codes "cut up down") ≡ Err (bad 1 Why.Word) }
+    ensures cut_count { input_of (codes "cut range 1") ≡ Err (bad 1 Why.Count) }
+    ensures second_cut { input_of (codes "cut range\ncut hash\n") ≡ Err (bad 2 Why.Twice) }
+    ensures vertex_count { input_of (codes "v") ≡ Err (bad 1 Why.Count) }
+    ensures vertex_number { input_of (codes "v 4294967296 x") ≡ Err (bad 1 Why.Number) }
+    ensures vertex_range { input_of (codes "v 1 4294967296") ≡ Err (bad 1 Why.Range) }
+    ensures second_vertex { input_of (codes "v 3\nv 3\n") ≡ Err (bad 2 Why.Twice) }
+    ensures alone { input_of (codes "query dist 7\nv 7 0\n") ≡ Ok alone_job }
+    ensures labelled { input_of (codes "5 8 4\nv 2 9\ncut range\n3 2\nv 8 1\nv 3\nfragments 2\nquery dist 3\n") ≡ Ok labelled_job }
     ensures query_count { input_of (codes "query") ≡ Err (bad 1 Why.Count) }
     ensures one_word { input_of (codes "1") ≡ Err (bad 1 Why.Count) }
     ensures four_words { input_of (codes "1 2 3 4") ≡ Err (bad 1 Why.Count) }

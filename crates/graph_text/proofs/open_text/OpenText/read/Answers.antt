@@ -3,7 +3,7 @@ use Rattle.std.proofs.lemmas.Result.{err_from_is_err_and}
 use Rattle.graph_text.specs.Input.{shown_of}
 use Rattle.graph_text.specs.ReaderState.{text_state}
 use Rattle.graph_text.specs.Reader.{Answers, HasText}
-use Rattle.graph_text.proofs.Reading.{answers_more, answer-exit, piece-front}
+use Rattle.graph_text.proofs.Reading.{answers_more, answer-exit, piece-front, text-rest}
 use Rattle.graph_text.proofs.open_text.OpenText.read.Goals as goal
 
 pub returns-in_err-end_line-clause-answer : goal.returns-in_err-end_line-clause-answer
@@ -23,3 +23,7 @@ lines-preserved c =
       front = append_assoc taken c.in-Some.end.now c.in-Some.others.now ∙ ap (λ l. taken ++ l) c.in-Some.ensures.1 ∙ c.lines.invariant.front;
       reads = λ text h. subst (HasText (text_state c.end_line.new.self)) (append_assoc text taken c.in-Some.end.now) (c.in_ok-end_line.ensures.ok (text ++ taken) (c.lines.invariant.reads text h));
     }
+
+pub returns-clause-ok : goal.returns-clause-ok
+returns-clause-ok c =
+    text-rest c.hold.result (text_state c.args.self.now) (text_state c.lines.self) (text_state c.hold.new.self) c.lines.invariant.taken c.lines.rest.now c.args.piece.now c.lines.invariant.front c.lines.invariant.reads c.hold.ensures.ok
