@@ -1,0 +1,10 @@
+//! The file of states as a disk: what a read gives, and what a crash may leave.
+//!
+//! [`Disk`] is one file with its calls. All that keeps states in the crates above is generic over
+//! it, and speaks of crashes by the members of its contract.
+#![tactic(auto)]
+
+mod disk;
+
+pub use disk::Disk;
+pub use grape_port::Failed;
