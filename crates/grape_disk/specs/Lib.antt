@@ -1,1 +1,6 @@
+pub mod Histories
 pub mod Images
+pub mod MemDisks
+pub mod Picks
+pub mod Platters
+pub mod Steps

@@ -5,6 +5,9 @@
 #![tactic(auto)]
 
 mod disk;
+mod history;
+mod pick;
 
 pub use disk::Disk;
 pub use grape_port::Failed;
+pub use pick::Pick;

@@ -1,0 +1,4 @@
+pub mod Placed
+pub mod Standing
+pub mod Torn
+pub mod Whole
