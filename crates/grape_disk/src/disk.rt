@@ -29,12 +29,6 @@ pub trait Disk {
     /// How many calls have failed.
     ghost faults: { Self → ℕ };
 
-    /// What a read gives is what a crash at this moment may leave.
-    ghost reads_an_image: { (disk : Self) (file : List ℕ) → IsTrue (honest disk) → content disk ≡ Some file → images disk (moment disk) file };
-
-    /// The moments since a later one are among those since an earlier one.
-    ghost since_earlier: { (disk : Self) (earlier later : ℕ) (c : List ℕ) → earlier ≤ later → images disk later c → images disk earlier c };
-
     /// How many of the four calls below were made, up to `u64::MAX`.
     fn calls(&self) -> u64
         ensures { result ≡ moment self.now };
@@ -84,4 +78,10 @@ pub trait Disk {
         ensures crash { IsTrue (honest self.old) → Quiet images moment self.old self.new }
         ensures err { OnErr result (IsTrue (honest self.old) → Same content images moment self.old self.new) }
         ensures counts { Counts moment faults honest result self.old self.new };
+
+    /// What a read gives is what a crash at this moment may leave.
+    ghost reads_an_image: { (disk : Self) (file : List ℕ) → IsTrue (honest disk) → content disk ≡ Some file → images disk (moment disk) file };
+
+    /// The moments since a later one are among those since an earlier one.
+    ghost since_earlier: { (disk : Self) (earlier later : ℕ) (c : List ℕ) → earlier ≤ later → images disk later c → images disk earlier c };
 }
