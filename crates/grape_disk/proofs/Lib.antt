@@ -1,4 +1,5 @@
-pub mod Placed
+pub mod Moments
+pub mod Overwritten
+pub mod Picking
 pub mod Standing
 pub mod Torn
-pub mod Whole

@@ -4,8 +4,8 @@ use Rattle.std.proofs.lemmas.List.{get_or-take, get_or-drop}
 use Rattle.std.proofs.lemmas.Bool.Decides.{leb_tells}
 use Rattle.grape_disk.specs.Images.{written, Torn}
 use Rattle.grape_disk.specs.Platters.{wrote, PlatterState, after, IsImage}
-use Rattle.grape_disk.proofs.Placed.{length-placed, below, inside, above}
-use Rattle.grape_disk.proofs.Whole.{IsWhole, same_mark}
+use Rattle.grape_disk.specs.Placed.{length-placed, below, inside, above}
+use Rattle.grape_disk.specs.Whole.{IsWhole, same_mark}
 
 -- the stable bytes of a range
 abbrev stood : PlatterState → ℕ → ℕ → List ℕ

@@ -1,6 +1,9 @@
 pub mod Histories
 pub mod Images
+pub mod Laws
 pub mod MemDisks
 pub mod Picks
+pub mod Placed
 pub mod Platters
 pub mod Steps
+pub mod Whole

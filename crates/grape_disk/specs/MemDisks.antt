@@ -1,8 +1,8 @@
 -- What a disk in memory holds, and what each of its calls does.
-use Rattle.std.specs.Prelude.{ℕ, ◌+◌, ◌-◌, ◌^◌, ◌==◌, Bool, false, ◌||◌, nat_le, List, [], ◌∷◌, Option, Some, None}
+use Rattle.std.specs.Prelude.{ℕ, ◌+◌, ◌-◌, ◌^◌, ◌==◌, ◌<◌, Bool, true, false, ◌&&◌, ◌||◌, nat_lt, nat_le, ⊤, List, [], ◌∷◌, Option, Some, None}
 use Rattle.std.specs.List.{list_any}
 use Rattle.grape_port.specs.Ports.{one_more}
-use Rattle.grape_disk.specs.Platters.{Did, PlatterState, platter}
+use Rattle.grape_disk.specs.Platters.{Did, PlatterState, platter, ImageSince}
 
 -- The bytes at the start, the writes and syncs since, each with its moment and the newest first, and how many bytes there is room
 -- for.
@@ -55,3 +55,28 @@ failed s = record s { calls = one_more s.calls; faults = one_more s.faults }
 -- the same disk with one more write or sync, at its moment
 abbrev pub with : Did → MemDiskState → MemDiskState
 with call s = record s { file = did s.calls call s.file }
+
+-- there is a number for the next call, and room up to an end
+abbrev pub has_place : MemDiskState → ℕ → Bool
+has_place s end = nat_lt s.calls (2 ^ 64 - 1) && nat_le end s.file.room
+
+-- each write and sync has one of the moments before so many calls
+abbrev pub AreEarlier : ℕ → List (ℕ × Did) → Type 0
+AreEarlier calls [] = ⊤
+AreEarlier calls (call ∷ earlier) = (call.0 < calls) × AreEarlier calls earlier
+
+-- what the disk tells
+abbrev pub content_of : MemDiskState → Option (List ℕ)
+content_of s = Some (now s).read
+
+abbrev pub images_of : MemDiskState → ℕ → List ℕ → Type 0
+images_of s t = ImageSince s.file.start t s.file.done
+
+abbrev pub calls_of : MemDiskState → ℕ
+calls_of s = s.calls
+
+abbrev pub faults_of : MemDiskState → ℕ
+faults_of s = s.faults
+
+abbrev pub always : MemDiskState → Bool
+always s = true

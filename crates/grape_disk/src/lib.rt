@@ -6,8 +6,10 @@
 
 mod disk;
 mod history;
+mod mem_disk;
 mod pick;
 
 pub use disk::Disk;
 pub use grape_port::Failed;
+pub use mem_disk::MemDisk;
 pub use pick::Pick;

@@ -1,6 +1,6 @@
 use Rattle.std.proofs.Common.{arith, ℕ, ◌+◌, ◌-◌, Bool, true, drop, replicate, ap, ◌∙◌, length-take, length-drop}
 use Rattle.std.proofs.lemmas.List.{length-replicate}
-use Rattle.grape_disk.proofs.Placed.{put_in}
+use Rattle.grape_disk.proofs.Overwritten.{put_in}
 use Rattle.grape_disk.proofs.history.mark.Goals as goal
 
 pub returns-clause-items : goal.returns-clause-items

@@ -1,5 +1,5 @@
 use Rattle.std.proofs.Common.{arith, refl}
-use Rattle.grape_disk.proofs.Placed.{put_in}
+use Rattle.grape_disk.proofs.Overwritten.{put_in}
 use Rattle.grape_disk.proofs.history.put.Goals as goal
 
 pub returns-clause-items : goal.returns-clause-items

@@ -1,6 +1,6 @@
 use Rattle.std.proofs.Common.{arith, ◌≡◌, ap, Bool, true, false, List, length, reverse, slice_index_or, subst}
 use Rattle.grape_disk.specs.Histories.{stands}
-use Rattle.grape_disk.proofs.Whole.{IsWhole, platter_whole}
+use Rattle.grape_disk.specs.Whole.{IsWhole, platter_whole}
 use Rattle.grape_disk.proofs.history.History.image.Goals as goal
 
 pub mixed-requires-clause-marks : goal.mixed-requires-clause-marks

@@ -1,7 +1,7 @@
 use Rattle.std.proofs.Common.{arith, ℕ, List, ◌++◌, false, replicate, ap, ◌∙◌, reverse}
 use Rattle.grape_disk.specs.Platters.{synced}
 use Rattle.grape_disk.proofs.Standing.{one_more_step, after_sync}
-use Rattle.grape_disk.proofs.Whole.{IsWhole, platter_whole}
+use Rattle.grape_disk.specs.Whole.{IsWhole, platter_whole}
 use Rattle.grape_disk.specs.Histories.{stands}
 use Rattle.grape_disk.proofs.history.History.sync.Goals as goal
 

@@ -2,7 +2,7 @@ use Rattle.std.proofs.Common.{arith, ◌≡◌, ℕ, List, [], ◌∷◌, ◌++�
 use Rattle.grape_disk.specs.Platters.{wrote}
 use Rattle.grape_disk.specs.Images.{written}
 use Rattle.grape_disk.specs.Histories.{stands}
-use Rattle.grape_disk.proofs.Placed.{length-placed}
+use Rattle.grape_disk.specs.Placed.{length-placed}
 use Rattle.grape_disk.proofs.Standing.{one_more_step, after_write}
 use Rattle.grape_disk.proofs.history.History.write.Goals as goal
 

@@ -4,7 +4,7 @@ use Rattle.std.proofs.lemmas.List.{places, length-replicate, get_or-replicate, g
 use Rattle.std.proofs.lemmas.Bool.Decides.{leb_tells}
 use Rattle.grape_disk.specs.Images.{written}
 use Rattle.grape_disk.specs.Platters.{Did, wrote, synced, PlatterState, at_rest, marked, after, platter}
-use Rattle.grape_disk.proofs.Placed.{placed, length-placed, below, gap, inside, above}
+use Rattle.grape_disk.specs.Placed.{placed, length-placed, below, gap, inside, above}
 
 -- each place of what a read gives has its mark, and where that is down stands the stable byte
 pub record IsWhole (p : PlatterState) : Type 0 where
