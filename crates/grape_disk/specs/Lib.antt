@@ -1,3 +1,4 @@
+pub mod FileDisks
 pub mod Histories
 pub mod Images
 pub mod Laws

@@ -5,11 +5,16 @@
 #![tactic(auto)]
 
 mod disk;
+mod file_disk;
 mod history;
+mod late_file;
 mod mem_disk;
 mod pick;
+#[cfg(test)]
+mod tests;
 
 pub use disk::Disk;
+pub use file_disk::FileDisk;
 pub use grape_port::Failed;
 pub use mem_disk::MemDisk;
 pub use pick::Pick;
