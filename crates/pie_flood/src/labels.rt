@@ -17,6 +17,7 @@ impl Labels {
 }
 
 impl Pie for Labels {
+    ghost use Rattle.std.proofs.Common.{refl};
     ghost use Rattle.graph_core.specs.Queries.{equations_of};
     ghost use Rattle.graph_core.proofs.Lawful.{lawful as lawful_equations};
     ghost use Rattle.pie_flood.specs.FloodJobs.{IsLabelJob};
@@ -26,6 +27,8 @@ impl Pie for Labels {
     ghost equations = { λ labels job. equations_of job };
 
     ghost counters_for = { λ job. 0 };
+
+    ghost of_query = { λ labels job h. refl };
 
     ghost lawful = { λ labels job h. lawful_equations job.graph job.query h.0.graph };
 

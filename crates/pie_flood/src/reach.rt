@@ -17,6 +17,7 @@ impl Reach {
 }
 
 impl Pie for Reach {
+    ghost use Rattle.std.proofs.Common.{refl};
     ghost use Rattle.graph_core.specs.Queries.{equations_of};
     ghost use Rattle.graph_core.proofs.Lawful.{lawful as lawful_equations};
     ghost use Rattle.pie_flood.specs.FloodJobs.{IsReachJob};
@@ -26,6 +27,8 @@ impl Pie for Reach {
     ghost equations = { λ reach job. equations_of job };
 
     ghost counters_for = { λ job. 0 };
+
+    ghost of_query = { λ reach job h. refl };
 
     ghost lawful = { λ reach job h. lawful_equations job.graph job.query h.0.graph };
 

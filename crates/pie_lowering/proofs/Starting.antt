@@ -69,21 +69,6 @@ loaded-ready e job part made local counters n starts same number is_part is_star
       room = ap (λ (l : LocalValues). length l.counters) is_local ∙ ap (λ (l : LocalValues). length l.counters) is_made ∙ length-replicate (length part.owned * counters) 0 ∙ ap (λ m. length part.owned * m) is_count;
     }
 
--- what was evaluated can be evaluated again
-pub ready-again : (e : Equations) (job : Job) (part : FragmentLists) (old new : LocalValues) (counters : ℕ) (hand : HandValues) → IsReadyFor e job part old counters → IsLocalSolution e part.owned part.mirrors old.values new.values
-    → new.before ≡ old.before → length new.counters ≡ length old.counters → length hand.values ≡ length part.mirrors → IsReadyAgain e job part new counters hand
-ready-again e job part old new counters hand ready solution before room mirrors = record {
-  ready = record {
-    number = ready.number;
-    is_part = ready.is_part;
-    below_start = AllBelow-trans e.order new.values old.values (starts_of e (part.owned ++ part.mirrors)) solution.candidate.below ready.below_start;
-    owned = ap length before ∙ ready.owned;
-    room = room ∙ ready.room;
-  };
-  solved = solution.candidate.equations;
-  mirrors = mirrors;
-}
-
 -- ---- the fragments of a job, one by one
 
 pub nth-part : (job : Job) (parts : List FragmentLists) (i : ℕ) (part : FragmentLists) → parts ≡ fragments_of job → i < length parts → part ≡ slice_index_or parts i part → (part.number < job.settings.fragments) × (part ≡ fragment_of job part.number)
