@@ -70,14 +70,14 @@ module _ (old new : HubValues) (e : Event) (more : Appended old e new) where
 
   pub hub_grown : IsHub old → IsTrue (is_admitted (machine old) (state_of old) e) → is_built e ≡ true → works_out (workers_of new) ≤ new.journal.spare → IsHub new
   hub_grown k a b room = record {
-      job = subst IsJob (sym more.0) k.job;
-      policy = ap (λ (job : Job). job.settings.policy) more.0 ∙ k.policy;
-      snapshot = ap (λ (job : Job). job.settings.snapshot) more.0 ∙ k.snapshot;
-      legal = subst (λ (job : Job). IsLegal (system_of job) (fresh_snapshot (system_of job)) new.journal.events) (sym more.0)
-          (subst (IsLegal (machine old) (beginning old)) (sym more.2) ((journals_grow (machine old) (beginning old) old.journal.events e).2.1 (k.legal, a)));
-      built = subst (AllByRecursion (λ e. is_built e ≡ true)) (sym more.2) (all_append (λ e. is_built e ≡ true) old.journal.events (e ∷ []) k.built (b, tt));
-      room = room;
-    }
+    job = subst IsJob (sym more.0) k.job;
+    policy = ap (λ (job : Job). job.settings.policy) more.0 ∙ k.policy;
+    snapshot = ap (λ (job : Job). job.settings.snapshot) more.0 ∙ k.snapshot;
+    legal = subst (λ (job : Job). IsLegal (system_of job) (fresh_snapshot (system_of job)) new.journal.events) (sym more.0)
+        (subst (IsLegal (machine old) (beginning old)) (sym more.2) ((journals_grow (machine old) (beginning old) old.journal.events e).2.1 (k.legal, a)));
+    built = subst (AllByRecursion (λ e. is_built e ≡ true)) (sym more.2) (all_append (λ e. is_built e ≡ true) old.journal.events (e ∷ []) k.built (b, tt));
+    room = room;
+  }
 
 -- ---- how many are out
 

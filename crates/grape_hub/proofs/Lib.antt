@@ -18,3 +18,4 @@ pub mod Given
 pub mod Gives
 pub mod Nexts
 pub mod Finished
+pub mod Calm

@@ -6,6 +6,7 @@ use Rattle.graph_core.specs.declared.fragment.Route.{Route}
 use Rattle.graph_core.specs.Fragments.{numbers_below}
 use Rattle.grape_event.specs.declared.event.Event.{Event}
 use Rattle.grape_event.specs.declared.event.Event.TheVariants.{Take, Give, Stretch, Hold, Flag, Ask, Ack, Nack, Begin, Mark, Seal, Kept, End, Stop}
+use Rattle.grape_event.specs.Events.{is_take}
 use Rattle.base_machine.specs.Machine.{System, Worker, Standing, worker_at, is_fresh, is_running, rests, batch_waits}
 use Rattle.base_machine.specs.Machine.Standing.{Fresh, Running, Rest}
 use Rattle.legal_journal.specs.Past.{has_ended, stretch_of}
@@ -110,7 +111,7 @@ module _ (h : HubValues) (routes : List (List (List Route))) (desks : List Desk)
 
     pub stretch_chosen : (i : ℕ) → first_desk may_take_at desks turn ≡ None → first_desk may_stretch_at desks turn ≡ Some i → (r : Next) (new : HubValues) → StretchesWorker h i r new → Chooses h lane r new
     stretch_chosen i n f (Took work) new t = absurd t
-    stretch_chosen i n f (Did e) new t = (chooses_stretch (machine h) (state_of h) h.counters routes desks turn (plain_of h kept) fits lane i below free n f ∙ ap (λ x. Some x) (sym t.0), t.1)
+    stretch_chosen i n f (Did e) new t = (chooses_stretch (machine h) (state_of h) h.counters routes desks turn (plain_of h kept) fits lane i below free n f ∙ ap (λ x. Some x) (sym t.0), ap is_take t.0, t.1)
     stretch_chosen i n f Idle new t = absurd t
     stretch_chosen i n f Ended new t = absurd t
     stretch_chosen i n f NoMemory new t = t

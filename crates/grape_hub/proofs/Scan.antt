@@ -134,14 +134,14 @@ module _ (sys : System) (s : State) (counters : ℕ) (routes : List (List (List 
   -- a row of the table for a worker is what its desk says
   at_desks : (row : ℕ → Bool) (test : Desk → Bool) → ((i : ℕ) (d : Desk) → slice_get desks i ≡ Some d → test d ≡ row i) → (i : ℕ) → (is_worker s i && row i) ≡ holds_at test desks i
   at_desks row test h i = elim (cases_lt i (length desks)) [
-      | inl l ↦
-          let c = fits.count in
-          let d = desk_there desks i l in
-          ap (λ b. b && row i) (lt-ltb i (worker_count s) (omega (arith, l, c))) ∙ (sym (h i d.0 d.1) ∙ sym (holds_in test desks i d.0 d.1))
-      | inr l ↦
-          let c = fits.count in
-          ap (λ b. b && row i) (le-ltb i (worker_count s) (omega (arith, l, c))) ∙ sym (holds_past test desks i l)
-    ]
+    | inl l ↦
+        let c = fits.count in
+        let d = desk_there desks i l in
+        ap (λ b. b && row i) (lt-ltb i (worker_count s) (omega (arith, l, c))) ∙ (sym (h i d.0 d.1) ∙ sym (holds_in test desks i d.0 d.1))
+    | inr l ↦
+        let c = fits.count in
+        ap (λ b. b && row i) (le-ltb i (worker_count s) (omega (arith, l, c))) ∙ sym (holds_past test desks i l)
+  ]
 
   admitted_is : (b : Bool) → (not (has_ended s.past) && b) ≡ b
   admitted_is b = ap (λ q. not q && b) p.going

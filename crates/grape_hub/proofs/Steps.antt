@@ -38,9 +38,9 @@ set_cases {X = X} (x ∷ xs) zero zero y z h = inl (refl, ap (λ (o : Option X).
 set_cases (x ∷ xs) zero (suc j) y z h = inr (λ e. absurd (omega (arith, e)), h)
 set_cases (x ∷ xs) (suc i) zero y z h = inr (λ e. absurd (omega (arith, e)), h)
 set_cases (x ∷ xs) (suc i) (suc j) y z h = elim (set_cases xs i j y z h) [
-      | inl k ↦ let e = k.0 in inl (omega (arith, e), k.1)
-      | inr k ↦ inr (λ e. k.0 (omega (arith, e)), k.1)
-    ]
+  | inl k ↦ let e = k.0 in inl (omega (arith, e), k.1)
+  | inr k ↦ inr (λ e. k.0 (omega (arith, e)), k.1)
+]
 
 -- ---- what doesn't change
 
@@ -48,16 +48,16 @@ set_cases (x ∷ xs) (suc i) (suc j) y z h = elim (set_cases xs i j y z h) [
 pub same_desk : (sys : System) (s s' : State) (counters j : ℕ) (d : Desk) → worker_at s'.workers j ≡ worker_at s.workers j → lane_of j s'.past ≡ lane_of j s.past → take_place j s'.past ≡ take_place j s.past →
     stretch_of j s'.past ≡ stretch_of j s.past → length s.past ≤ length s'.past → DeskFits sys s counters j d → DeskFits sys s' counters j d
 same_desk sys s s' counters j d w l t st le fits = record {
-    seat = seated d.seat fits.seat;
-    stretched = fits.stretched ∙ ap (λ (o : Option (ℕ × ℕ)). is_some o) (sym st);
-    no_turns = λ turns place h. let k = fits.no_turns turns place (sym st ∙ h) in let p = k.1 in (k.0, omega (arith, p, le));
-    buffer = fits.buffer ∙ ap (λ (x : Worker). buffer_of sys (piece_at sys.pieces j) x) (sym w);
-  }
+  seat = seated d.seat fits.seat;
+  stretched = fits.stretched ∙ ap (λ (o : Option (ℕ × ℕ)). is_some o) (sym st);
+  no_turns = λ turns place h. let k = fits.no_turns turns place (sym st ∙ h) in let p = k.1 in (k.0, omega (arith, p, le));
+  buffer = fits.buffer ∙ ap (λ (x : Worker). buffer_of sys (piece_at sys.pieces j) x) (sym w);
+}
   where
     seated : (seat : Seat) → SeatFits sys s counters j seat → SeatFits sys s' counters j seat
     seated (Here fresh local hand) k =
         subst (λ (x : Worker). (is_running x ≡ false) × (fresh ≡ is_fresh x) × (local.values ≡ x.values) × (local.before ≡ take (length (piece_at sys.pieces j).owned) x.values) × (hand.order ≡ sys.equations.order)
-            × HasSizes (piece_at sys.pieces j) counters local.before local.counters hand.values) (sym w) k
+        × HasSizes (piece_at sys.pieces j) counters local.before local.counters hand.values) (sym w) k
     seated (Out lane place) k = (ap (λ (x : Worker). is_running x) w ∙ k.0, l ∙ k.1, t ∙ k.2)
 
 -- ---- a Stretch
@@ -87,19 +87,19 @@ module _ (sys : System) (s : State) (counters : ℕ) (routes : List (List (List 
 
   pub stretch_fits : TablesFit sys (state_after sys s (Stretch i 0)) counters routes (slice_set desks i (record d { stretched = true })) turn
   stretch_fits = record {
-      are_routes = fits.are_routes;
-      count = length-set desks i _ ∙ fits.count;
-      is_turn = fits.is_turn;
-      fit = λ j e h. elim (set_cases desks i j (record d { stretched = true }) e h) [
-        | inl k ↦ subst (λ q. DeskFits sys (state_after sys s (Stretch i 0)) counters q e) (sym k.0) (subst (λ (q : Desk). DeskFits sys (state_after sys s (Stretch i 0)) counters i q) (sym k.1) stretched_desk)
-        | inr k ↦ stays j e k.0 k.1
-      ];
-    }
+    are_routes = fits.are_routes;
+    count = length-set desks i _ ∙ fits.count;
+    is_turn = fits.is_turn;
+    fit = λ j e h. elim (set_cases desks i j (record d { stretched = true }) e h) [
+      | inl k ↦ subst (λ q. DeskFits sys (state_after sys s (Stretch i 0)) counters q e) (sym k.0) (subst (λ (q : Desk). DeskFits sys (state_after sys s (Stretch i 0)) counters i q) (sym k.1) stretched_desk)
+      | inr k ↦ stays j e k.0 k.1
+    ];
+  }
 
 -- ---- a Take
 
 module _ (sys : System) (s : State) (counters : ℕ) (routes : List (List (List Route))) (desks : List Desk) (turn i lane : ℕ) (d : Desk) (counted : AreCounted (worker_count s) s)
-  (fits : TablesFit sys s counters routes desks turn) (here : slice_get desks i ≡ Some d) where
+    (fits : TablesFit sys s counters routes desks turn) (here : slice_get desks i ≡ Some d) where
   piece : Piece
   piece = piece_at sys.pieces i
 
@@ -131,10 +131,10 @@ module _ (sys : System) (s : State) (counters : ℕ) (routes : List (List (List 
       ap (λ (b : BufferValues). emptied b) (fits.fit i d here).buffer
       ∙ (ap (λ m. new_buffer o m) long
       ∙ sym (ap (λ l. record { order = o; plain = met_posts o n l; tagged = replicate n NOTHING; plain_batches = batches_waiting (after_taking sys (piece_at sys.pieces i) (gives_of_each (numbers_below (worker_count s)) s.past) (worker_at s.workers i)); tagged_batches = 0 })
-          (none_pending sys (piece_at sys.pieces i) (worker_count s) s.past (worker_at s.workers i) (counted.mail i in_range))
+      (none_pending sys (piece_at sys.pieces i) (worker_count s) s.past (worker_at s.workers i) (counted.mail i in_range))
       ∙ (ap (λ l. record { order = o; plain = l; tagged = replicate n NOTHING; plain_batches = batches_waiting (after_taking sys (piece_at sys.pieces i) (gives_of_each (numbers_below (worker_count s)) s.past) (worker_at s.workers i)); tagged_batches = 0 }) (no_posts_met o n)
       ∙ ap (λ m. record { order = o; plain = replicate n NOTHING; tagged = replicate n NOTHING; plain_batches = m; tagged_batches = 0 })
-          (none_waiting sys (piece_at sys.pieces i) (worker_count s) s.past (worker_at s.workers i) (counted.mail i in_range)))))
+      (none_waiting sys (piece_at sys.pieces i) (worker_count s) s.past (worker_at s.workers i) (counted.mail i in_range)))))
 
   pub taken_desk : (place : ℕ) → place ≡ length s.past → DeskFits sys (state_after sys s (Take i lane)) counters i (record { seat = Out lane place; stretched = false; buffer = emptied d.buffer })
   taken_desk place at =
@@ -156,7 +156,7 @@ module _ (sys : System) (s : State) (counters : ℕ) (routes : List (List (List 
       let l = slice_get_within desks j e h in
       same_desk sys s (state_after sys s (Take i lane)) counters j e
       (after-at sys s.workers (BaseTake i (gives_of_each (numbers_below (worker_count s)) s.past)) j (omega (arith, c, l))
-       ∙ ap (λ b. if b then after_taking sys (piece_at sys.pieces i) (gives_of_each (numbers_below (worker_count s)) s.past) (worker_at s.workers j) else worker_at s.workers j) (ne_eqb j i n))
+      ∙ ap (λ b. if b then after_taking sys (piece_at sys.pieces i) (gives_of_each (numbers_below (worker_count s)) s.past) (worker_at s.workers j) else worker_at s.workers j) (ne_eqb j i n))
       (ap (λ b. if b then Some lane else lane_of j s.past) (ne_eqb j i n)) (ap (λ b. if b then Some (length s.past) else take_place j s.past) (ne_eqb j i n))
       (ap (λ b. if b then None else stretch_of j s.past) (ne_eqb j i n)) (omega arith) (fits.fit j e h)
 

@@ -5,6 +5,7 @@ use Rattle.graph_core.specs.Fragments.{fragment_of}
 use Rattle.graph_core.specs.Queries.{equations_of}
 use Rattle.grape_event.specs.declared.event.Event.{Event}
 use Rattle.grape_event.specs.declared.event.Event.TheVariants.{Take, Stretch}
+use Rattle.grape_event.specs.Events.{is_take}
 use Rattle.pie_core.specs.Locals.{LocalValues}
 use Rattle.pie_core.specs.Solutions.{IsReadyFor, OwnEquationsHold}
 use Rattle.base_machine.specs.Machine.{worker_at, is_fresh, hand_of, values_given}
@@ -38,7 +39,7 @@ abbrev pub Chooses : HubValues → ℕ → Next → HubValues → Type 0
 Chooses old lane (Took work) new =
     (choice_of (machine old) (state_of old) lane ≡ Some (Take work.worker lane)) × Appended old (Take work.worker lane) new
     × IsWork new lane (is_fresh (worker_at (workers_of old) work.worker)) work
-Chooses old lane (Did e) new = (choice_of (machine old) (state_of old) lane ≡ Some e) × Appended old e new
+Chooses old lane (Did e) new = (choice_of (machine old) (state_of old) lane ≡ Some e) × (is_take e ≡ false) × Appended old e new
 Chooses old lane Idle new = (choice_of (machine old) (state_of old) lane ≡ None) × (new ≡ old) × (has_ended (reverse old.journal.events) ≡ false)
 Chooses old lane Ended new = (new ≡ old) × (has_ended (reverse old.journal.events) ≡ true)
 Chooses old lane NoMemory new = Unchanged old new

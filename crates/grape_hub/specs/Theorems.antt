@@ -1,18 +1,37 @@
 -- The laws of hubs, as statements.
-use Rattle.std.specs.Prelude.{◌≡◌, ℕ, ◌<◌, ◌≤◌, ◌+◌, ◌*◌, false, IsTrue, None, length, slice_index}
+use Rattle.std.specs.Prelude.{◌≡◌, ℕ, ◌<◌, ◌≤◌, ◌+◌, ◌*◌, false, IsTrue, None, [], length, slice_index}
 use Rattle.graph_core.specs.Equations.{Assignment, IsGreatest}
 use Rattle.graph_core.specs.Queries.{equations_of}
 use Rattle.graph_core.specs.Fragments.{IsOwnedAt, pieces_of}
+use Rattle.grape_event.specs.declared.event.Event.{Event}
+use Rattle.grape_event.specs.declared.event.Event.TheVariants.{Take, Give}
+use Rattle.grape_event.specs.Events.{is_take}
 use Rattle.base_machine.specs.Machine.{worker_at, is_running}
 use Rattle.base_machine.specs.Fitness.{is_quiet}
 use Rattle.base_machine.specs.Bounds.{bound_of}
+use Rattle.legal_journal.specs.Legal.{has_work_out}
 use Rattle.grape_hub.specs.HubValues.{HubValues}
+use Rattle.grape_hub.specs.Calls.{Appended}
 use Rattle.grape_hub.specs.States.{machine, state_of, workers_of, IsHub}
 use Rattle.grape_hub.specs.Choice.{choice_of}
 
 -- nobody is out
 abbrev pub IsCalm : HubValues → Type 0
 IsCalm h = (i : ℕ) → i < length (workers_of h) → is_running (worker_at (workers_of h) i) ≡ false
+
+-- Where nobody is out every lane is free, and a lane's turn, a Take with its Give or another event, leaves it so.
+abbrev pub CalmIsFree : Type 0
+CalmIsFree = (h : HubValues) (lane : ℕ) → IsCalm h → has_work_out (state_of h) lane ≡ false
+
+abbrev pub CalmAtBeginning : Type 0
+CalmAtBeginning = (h : HubValues) → h.journal.events ≡ [] → IsCalm h
+
+abbrev pub CalmAfterTurn : Type 0
+CalmAfterTurn =
+    (old taken given : HubValues) (i lane : ℕ) → IsHub old → IsCalm old → Appended old (Take i lane) taken → IsHub taken → Appended taken (Give i) given → IsHub given → IsCalm given
+
+abbrev pub CalmAfterOther : Type 0
+CalmAfterOther = (old new : HubValues) (e : Event) → IsHub old → IsCalm old → is_take e ≡ false → Appended old e new → IsHub new → IsCalm new
 
 -- Where nobody is out and a lane has nothing to do, every worker rests and no mail waits.
 abbrev pub IdleIsQuiet : Type 0

@@ -74,7 +74,8 @@ impl<P: Pie> Hub<P> {
         requires fragments { fragments.now ≡ fragments_of job.now }
         requires policy { job.now.settings.policy ≡ Ap }
         requires snapshot { job.now.settings.snapshot ≡ 0 }
-        ensures { IfOk result (λ hub. hub ≡ record { job = job.now; counters = P.counters_for job.now; journal = new_journal }) }
+        ensures beginning { IfOk result (λ hub. hub ≡ record { job = job.now; counters = P.counters_for job.now; journal = new_journal }) }
+        ensures hub { IfOk result (λ hub. IsHub hub) }
     {
         let order = program.order();
         let counters = program.counters();

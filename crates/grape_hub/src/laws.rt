@@ -1,4 +1,12 @@
-ghost use Rattle.grape_hub.specs.Theorems.{IdleIsQuiet, QuietIsTheAnswer, JournalIsBounded};
+ghost use Rattle.grape_hub.specs.Theorems.{CalmIsFree, CalmAtBeginning, CalmAfterTurn, CalmAfterOther, IdleIsQuiet, QuietIsTheAnswer, JournalIsBounded};
+
+/// Where nobody is out every lane is free, and one lane's turns leave it so.
+pub fn turns_are_calm()
+    ensures free { CalmIsFree }
+    ensures beginning { CalmAtBeginning }
+    ensures turn { CalmAfterTurn }
+    ensures other { CalmAfterOther }
+{}
 
 /// Where nobody is out and a lane has nothing to do, every worker rests and no mail waits.
 pub fn idle_is_quiet()

@@ -14,5 +14,5 @@ mod posting;
 mod work;
 
 pub use hub::Hub;
-pub use laws::{hubs_are_bounded, idle_is_quiet, quiet_is_the_answer};
+pub use laws::{hubs_are_bounded, idle_is_quiet, quiet_is_the_answer, turns_are_calm};
 pub use work::{Next, Work};

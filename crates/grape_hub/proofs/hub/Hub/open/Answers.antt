@@ -25,3 +25,16 @@ invariant_of-result g c =
     ap length c.in_ok-desks_of.ensures ∙ length-map fragments (new_desk job c.order-order.result c.counters-counters.result) in
     let room = c.in_ok-with_capacity.ensures.capacity in
     (kept.0, kept.1, kept.2, c.in_ok-with_capacity.ensures.items, omega (arith, many, room))
+
+pub returns-clause-hub : goal.returns-clause-hub
+returns-clause-hub g c =
+    let job = c.args.job.now in
+    let fragments = c.args.fragments.now in
+    let order : c.order-order.result ≡ (equations_of job).order =
+    c.order-order.ensures job c.requires.program ∙ ap (λ (e : Equations). e.order) (g.met.P.Pie.of_query c.args.program job c.requires.program) in
+    let counters = c.counters-counters.ensures job c.requires.program in
+    let kept =
+    opens (λ j. g.P.Pie.is_for c.args.program j) g.P.Pie.counters_for job c.in_ok-copy.field-0 c.new.result c.counters-counters.result c.order-order.result fragments c.in_ok-routes_of.field-0.items
+    c.in_ok-desks_of.field-0.items c.requires.job c.requires.program c.requires.policy c.requires.snapshot c.requires.fragments order counters c.in_ok-routes_of.ensures c.in_ok-desks_of.ensures c.in_ok-copy.ensures
+    c.new.ensures in
+    kept.1
