@@ -14,12 +14,11 @@ use Rattle.graph_text.specs.declared.fault.Why.TheVariants as causes
 use Rattle.graph_text.specs.declared.fault.TextFault.{TextFault}
 use Rattle.graph_text.specs.declared.fault.TextFault.TheVariants as fault
 use Rattle.graph_text.specs.declared.statement.Question.{Question}
-use Rattle.graph_text.specs.declared.statement.Question.TheVariants.{Distances}
 use Rattle.graph_text.specs.declared.statement.Statement.{Statement}
 use Rattle.graph_text.specs.declared.statement.Statement.TheVariants.{Nothing, Joins, Vertex, Asks, Fragments, Cuts}
 use Rattle.graph_text.specs.NumberSets.{insert_number, is_among}
 use Rattle.graph_text.specs.ReaderState.{GatheredState}
-use Rattle.graph_text.specs.Input.{bad, numbers_with, vertex_numbers, repeats, is_edge, are_too_many, cause_among, first_of, question_in, fragments_in, cut_in, edge_in, missing_for}
+use Rattle.graph_text.specs.Input.{bad, numbers_with, vertex_numbers, repeats, is_edge, are_too_many, cause_among, first_of, question_in, fragments_in, cut_in, edge_in, missing_source}
 use Rattle.graph_text.specs.Gathering.{vertex_in, Holds}
 use Rattle.graph_text.specs.Reader.{Answers}
 use Rattle.graph_text.proofs.Jobs.{count_edges, any-insert}
@@ -188,5 +187,5 @@ labelled-push n label before after labels h e k =
 
 -- What a query lacks.
 
-pub missing : (b : Bool) (q : Question) (n : ℕ) (ss : List Statement) → q ≡ Distances n → is_among n (vertex_numbers ss) ≡ b → cond b None (Some causes.NoSource) ≡ missing_for ss q
-missing b q n ss e h = subst (λ r. cond b None (Some causes.NoSource) ≡ missing_for ss r) (sym e) (ap (λ c. cond c None (Some causes.NoSource)) (sym h))
+pub missing : (b : Bool) (source : Option ℕ) (n : ℕ) (ss : List Statement) → source ≡ Some n → is_among n (vertex_numbers ss) ≡ b → cond b None (Some causes.NoSource) ≡ missing_source ss source
+missing b source n ss e h = subst (λ o. cond b None (Some causes.NoSource) ≡ missing_source ss o) (sym e) (ap (λ c. cond c None (Some causes.NoSource)) (sym h))

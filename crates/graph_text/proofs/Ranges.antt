@@ -8,13 +8,15 @@ use Rattle.grape_port.specs.Decimal.{number_of}
 use Rattle.graph_text.specs.declared.fault.Why.{Why}
 use Rattle.graph_text.specs.declared.fault.Why.TheVariants as causes
 use Rattle.graph_text.specs.declared.statement.Question.{Question}
-use Rattle.graph_text.specs.declared.statement.Question.TheVariants.{Distances}
+use Rattle.graph_text.specs.declared.statement.Question.TheVariants.{Distances, Labels, Reaches}
 use Rattle.graph_text.specs.declared.statement.Statement.{Statement}
 use Rattle.graph_text.specs.declared.statement.Statement.TheVariants.{Nothing, Joins, Vertex, Asks, Fragments, Cuts}
 use Rattle.graph_text.specs.Statements.{Range, is_in, are_in, word32, fragment_count, cons_number, numbers_of, statement_in, made_of, first, second, Form, completed, statement_by, edge_form, one_word_forms, query_forms, cut_forms, second_word_forms, statement_if, statement_among, keyword_statement, begins_with_digit, is_comment, statement_of}
 
 abbrev pub AsksInRange : Question → Type 0
 AsksInRange (Distances source) = source < 2 ^ 32
+AsksInRange Labels = ⊤
+AsksInRange (Reaches source) = source < 2 ^ 32
 
 abbrev pub InRange : Statement → Type 0
 InRange Nothing = ⊤
@@ -108,7 +110,11 @@ edge_makes : FormMakes edge_form
 edge_makes = makes_three word32 word32 word32 edge_form.says (λ n m k a b c d e f. (omega (arith, b), omega (arith, d), omega (arith, f)))
 
 queries_make : AllByRecursion FormMakes query_forms
-queries_make = (makes_one word32 (λ ns. Asks (Distances (first ns))) (λ n a b. omega (arith, b)), tt)
+unfolding Makes
+queries_make = (
+  makes_one word32 (λ ns. Asks (Distances (first ns))) (λ n a b. omega (arith, b)),
+  ((λ ns l e. tt), (makes_one word32 (λ ns. Asks (Reaches (first ns))) (λ n a b. omega (arith, b)), tt)),
+)
 
 one_words_make : AllByRecursion FormMakes one_word_forms
 one_words_make = (

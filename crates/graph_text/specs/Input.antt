@@ -16,7 +16,7 @@ use Rattle.graph_text.specs.declared.fault.Why.{Why}
 use Rattle.graph_text.specs.declared.fault.Why.TheVariants as causes
 use Rattle.graph_text.specs.Lines.{lines_of, words_of, is_ended, is_too_long}
 use Rattle.graph_text.specs.declared.statement.Question.{Question}
-use Rattle.graph_text.specs.declared.statement.Question.TheVariants.{Distances}
+use Rattle.graph_text.specs.declared.statement.Question.TheVariants.{Distances, Labels, Reaches}
 use Rattle.graph_text.specs.declared.statement.Statement.{Statement}
 use Rattle.graph_text.specs.declared.statement.Statement.TheVariants.{Joins, Vertex, Asks, Fragments, Cuts}
 use Rattle.graph_text.specs.Statements.{statement_of}
@@ -83,11 +83,11 @@ first_bad cause before [] = None
 first_bad cause before (line ∷ lines) =
     option_or (option_map (bad (length before + 1)) (cause before line)) (first_bad cause (before ++ line ∷ []) lines)
 
--- the queries whose lines are built
+-- the queries whose lines are built: all but simulations
 abbrev pub IsBuilt : Query → Type 0
 IsBuilt (query.Dist source) = ⊤
-IsBuilt query.Label = ⊥
-IsBuilt (query.Reach source) = ⊥
+IsBuilt query.Label = ⊤
+IsBuilt (query.Reach source) = ⊤
 IsBuilt (query.Sim pattern) = ⊥
 
 -- what the first statement of a kind says
@@ -137,13 +137,25 @@ vertices_of ss = map (λ number. (number, label_of ss number)) (vertex_numbers s
 
 abbrev pub query_of : Question → Query
 query_of (Distances source) = query.Dist source
+query_of Labels = query.Label
+query_of (Reaches source) = query.Reach source
 
 abbrev pub job_of : List Statement → Question → Job
 job_of ss q = record { graph = graph_of (vertices_of ss) (filter_map edge_in ss); query = query_of q; settings = settings_of ss }
 
--- what a query needs and the lines lack: its source among the vertices
+-- the number of the vertex that a query starts from
+abbrev pub source_of : Question → Option ℕ
+source_of (Distances source) = Some source
+source_of Labels = None
+source_of (Reaches source) = Some source
+
+-- what a query needs and the lines lack: its source, where it has one, among the vertices
+abbrev pub missing_source : List Statement → Option ℕ → Option Why
+missing_source ss None = None
+missing_source ss (Some source) = if is_among source (vertex_numbers ss) then None else Some causes.NoSource
+
 abbrev pub missing_for : List Statement → Question → Option Why
-missing_for ss (Distances source) = if is_among source (vertex_numbers ss) then None else Some causes.NoSource
+missing_for ss q = missing_source ss (source_of q)
 
 -- the job that good lines make, or the cause why they make none
 abbrev pub job_unless : List Statement → Question → Option Why → Result Job Why

@@ -41,3 +41,16 @@ labelled_job =
       query = query.Dist 3;
       settings = record { fragments = 2; lanes = 1; cut = cut.Range; policy = policy.Ap; snapshot = 0 };
     }
+
+-- labels on no vertices
+abbrev pub empty_job : Job
+empty_job = record { graph = record { vertices = []; edges = [] }; query = query.Label; settings = unset }
+
+-- what a vertex reaches in a list of edges from elsewhere
+abbrev pub download_job : Job
+download_job =
+    record {
+      graph = record { vertices = (0, 0) ∷ (11342, 0) ∷ (824020, 0) ∷ []; edges = edge_of 0 1 1 ∷ edge_of 0 2 1 ∷ edge_of 1 0 1 ∷ [] };
+      query = query.Reach 0;
+      settings = unset;
+    }

@@ -5,7 +5,7 @@ use Rattle.grape_port.specs.Decimal.{is_digit, number_of}
 use Rattle.graph_core.specs.declared.settings.Cut.TheVariants as cut
 use Rattle.graph_text.specs.declared.fault.Why.{Why}
 use Rattle.graph_text.specs.declared.fault.Why.TheVariants as causes
-use Rattle.graph_text.specs.declared.statement.Question.TheVariants.{Distances}
+use Rattle.graph_text.specs.declared.statement.Question.TheVariants.{Distances, Labels, Reaches}
 use Rattle.graph_text.specs.declared.statement.Statement.{Statement}
 use Rattle.graph_text.specs.declared.statement.Statement.TheVariants.{Nothing, Joins, Vertex, Asks, Fragments, Cuts}
 
@@ -94,7 +94,11 @@ one_word_forms =
 
 -- the forms that the word behind `query` names
 abbrev pub query_forms : List Form
-query_forms = record { keyword = codes "dist"; ranges = word32 ∷ []; says = λ ns. Asks (Distances (first ns)); last = None } ∷ []
+query_forms =
+    record { keyword = codes "dist"; ranges = word32 ∷ []; says = λ ns. Asks (Distances (first ns)); last = None }
+    ∷ record { keyword = codes "label"; ranges = []; says = λ ns. Asks Labels; last = None }
+    ∷ record { keyword = codes "reach"; ranges = word32 ∷ []; says = λ ns. Asks (Reaches (first ns)); last = None }
+    ∷ []
 
 -- the forms that the word behind `cut` names
 abbrev pub cut_forms : List Form

@@ -1,7 +1,7 @@
 ghost use Rattle.std.specs.Prelude.{◌≡◌, ℕ, ◌+◌, List, [], ◌∷◌, ◌++◌, length, filter_map, Ok, None, Some, IsSome, option_map, OnOk, IfOk, IfErr};
 ghost use Rattle.graph_core.specs.Graphs.{IsJob, MakeGraph, graph_of};
 ghost use Rattle.graph_text.specs.declared.statement.Statement.{Statement as Said};
-ghost use Rattle.graph_text.specs.Input.{bad, cause_among, statements_of, first_bad, cause_of, job_of_lines, vertices_of, settings_of, query_of, missing_for, edge_in, IsBuilt};
+ghost use Rattle.graph_text.specs.Input.{bad, cause_among, statements_of, first_bad, cause_of, job_of_lines, vertices_of, settings_of, query_of, source_of, missing_for, edge_in, IsBuilt};
 ghost use Rattle.graph_text.specs.ReaderState.{gathered_state};
 ghost use Rattle.graph_text.specs.Gathering.{Holds};
 ghost use Rattle.graph_text.specs.Reader.{Answers, Gives};
@@ -134,7 +134,8 @@ impl Gathered {
     fn missing_for(&self, question: Question) -> Option<Why>
         ensures { (ss : List Said) → Holds (gathered_state self.now) ss → result ≡ missing_for ss question }
     {
-        if self.numbers.contains(source_of(question)) {
+        let source = source_of(question)?;
+        if self.numbers.contains(source) {
             None
         } else {
             Some(Why::NoSource)
@@ -181,12 +182,13 @@ fn keep_once<T: Drop>(kept: &mut Option<T>, said: T, line: u64) -> Result<(), Te
     Ok(())
 }
 
-/// The vertex that a question names.
-fn source_of(question: Question) -> u32
-    ensures { question ≡ Question.Distances result }
+/// The number of the vertex that a query starts from.
+fn source_of(question: Question) -> Option<u32>
+    ensures { result ≡ source_of question }
 {
     match question {
-        Question::Distances(source) => source,
+        Question::Labels => None,
+        Question::Distances(source) | Question::Reaches(source) => Some(source),
     }
 }
 
@@ -196,5 +198,7 @@ fn query_of(question: Question) -> Query
 {
     match question {
         Question::Distances(source) => Query::Dist(source),
+        Question::Labels => Query::Label,
+        Question::Reaches(source) => Query::Reach(source),
     }
 }

@@ -1,6 +1,7 @@
-ghost use Rattle.std.specs.Prelude.{◌≡◌, ◌==◌, ◌∷◌, [], false, length, codes, MatchOption};
+ghost use Rattle.std.specs.Prelude.{◌≡◌, ℕ, ◌==◌, ◌∷◌, [], false, length, codes, MatchOption, Ok, Err, IfOk, IfErr};
+ghost use Rattle.graph_text.specs.declared.statement.Statement.{Statement as Said};
 ghost use Rattle.graph_text.specs.Lines.{words_in, words_of};
-ghost use Rattle.graph_text.specs.Statements.{statement_of, statement_by, statement_among, edge_form, one_word_forms, query_forms, cut_forms, second_word_forms, keyword_statement};
+ghost use Rattle.graph_text.specs.Statements.{first, made_of, word32, statement_of, statement_by, statement_among, edge_form, one_word_forms, query_forms, cut_forms, second_word_forms, keyword_statement};
 
 use crate::fault::Why;
 use crate::words::{split_word, without_line_end};
@@ -15,6 +16,10 @@ const MAX_FRAGMENTS: u32 = 64;
 pub enum Question {
     /// The distances from the vertex with this number.
     Distances(u32),
+    /// The least number among the vertices that are joined to each vertex.
+    Labels,
+    /// Whether walks lead from the vertex with this number.
+    Reaches(u32),
 }
 
 /// What one line says, whatever the other lines are.
@@ -114,6 +119,8 @@ fn read_query(rest: &[u8]) -> Result<Statement, Why>
     };
     match word {
         b"dist" => read_distances(rest),
+        b"label" => read_labels(rest),
+        b"reach" => read_reaches(rest),
         _ => Err(Why::Word),
     }
 }
@@ -122,6 +129,33 @@ fn read_query(rest: &[u8]) -> Result<Statement, Why>
 fn read_distances(rest: &[u8]) -> Result<Statement, Why>
     ensures { result ≡ statement_among query_forms (codes "dist" ∷ words_in rest.now) }
 {
+    let source = read_source(rest)?;
+    Ok(Statement::Asks(Question::Distances(source)))
+}
+
+/// The query for labels, behind which no word stands.
+fn read_labels(rest: &[u8]) -> Result<Statement, Why>
+    ensures { result ≡ statement_among query_forms (codes "label" ∷ words_in rest.now) }
+{
+    if split_word(rest).is_some() {
+        return Err(Why::Count);
+    }
+    Ok(Statement::Asks(Question::Labels))
+}
+
+/// The query for what the vertex reaches whose number is the one word here.
+fn read_reaches(rest: &[u8]) -> Result<Statement, Why>
+    ensures { result ≡ statement_among query_forms (codes "reach" ∷ words_in rest.now) }
+{
+    let source = read_source(rest)?;
+    Ok(Statement::Asks(Question::Reaches(source)))
+}
+
+/// The number of a vertex that is the one word here.
+fn read_source(rest: &[u8]) -> Result<u32, Why>
+    ensures ok { (says : ℕ → Said) → IfOk result (λ source. made_of (word32 ∷ []) (λ ns. says (first ns)) (words_in rest.now) ≡ Ok (says source)) }
+    ensures err { (says : ℕ → Said) → IfErr result (λ why. made_of (word32 ∷ []) (λ ns. says (first ns)) (words_in rest.now) ≡ Err why) }
+{
     let Some(source) = only_word(rest) else {
         return Err(Why::Count);
     };
@@ -129,7 +163,7 @@ fn read_distances(rest: &[u8]) -> Result<Statement, Why>
         return Err(Why::Number);
     };
     match u32::try_from(source) {
-        Ok(source) => Ok(Statement::Asks(Question::Distances(source))),
+        Ok(source) => Ok(source),
         Err(_) => Err(Why::Range),
     }
 }

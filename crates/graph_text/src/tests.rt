@@ -31,11 +31,10 @@ fn read_cut(alloc: Global, text: &[u8], place: usize) -> Result<Job, TextFault> 
 
 // The tables stand in functions of their own, so that the proofs of the tests don't see their bytes.
 
-fn bad_table() -> [(&'static [u8], u64, Why); 22] {
+fn bad_table() -> [(&'static [u8], u64, Why); 21] {
     [
         (b"hello", 1, Why::Word),
         (b"query foo", 1, Why::Word),
-        (b"query label", 1, Why::Word),
         (b"query\tdist 0\nlanes 2\n", 2, Why::Word),
         (b"-1 2", 1, Why::Word),
         (b"query", 1, Why::Count),
@@ -55,6 +54,31 @@ fn bad_table() -> [(&'static [u8], u64, Why); 22] {
         (b"query dist 9\n1 2\n", 3, Why::NoSource),
         (b"query dist 9\n1 2", 3, Why::NoSource),
         (b"query dist 9", 2, Why::NoSource),
+    ]
+}
+
+fn bad_queries() -> [(&'static [u8], u64, Why); 20] {
+    [
+        (b"query sim", 1, Why::Word),
+        (b"query labels", 1, Why::Word),
+        (b"query reaches x", 1, Why::Word),
+        (b"label", 1, Why::Word),
+        (b"query label 1", 1, Why::Count),
+        (b"query label x", 1, Why::Count),
+        (b"query reach", 1, Why::Count),
+        (b"query reach x 1", 1, Why::Count),
+        (b"query reach x", 1, Why::Number),
+        (b"query reach 184467440737095516160", 1, Why::Number),
+        (b"query reach 4294967296", 1, Why::Range),
+        (b"query label\nquery reach 1", 2, Why::Twice),
+        (b"query label\nquery label\n", 2, Why::Twice),
+        (b"query dist 1\n1 2\nquery label\nhello\n", 3, Why::Twice),
+        (b"query reach 1\nquery reach\n", 2, Why::Count),
+        (b"query reach 9\n1 2", 3, Why::NoSource),
+        (b"query reach 9\n1 2\n", 3, Why::NoSource),
+        (b"1 9\nquery reach 0", 3, Why::NoSource),
+        (b"query reach 9", 2, Why::NoSource),
+        (b"query label\n1 x\n", 2, Why::Number),
     ]
 }
 
@@ -131,23 +155,42 @@ fn check_refused(rt: &impl Abort, alloc: Global, table: &[(&'static [u8], u64, W
 #[test]
 fn bad_lines(rt: HostRuntime) {
     check_refused(&rt, rt.alloc(), &bad_table());
+    check_refused(&rt, rt.alloc(), &bad_queries());
     check_refused(&rt, rt.alloc(), &bad_settings());
     check_refused(&rt, rt.alloc(), &bad_vertices());
 }
 
-/// What a job has: its source, settings, vertices with labels, and edges between indexes.
+/// The query of a job.
+#[derive(Clone, Copy, Debug, PartialEq, Eq)]
+enum Asked {
+    Dist(u32),
+    Label,
+    Reach(u32),
+    Sim,
+}
+
+fn question_of(query: &Query) -> Asked {
+    match query {
+        Query::Dist(source) => Asked::Dist(*source),
+        Query::Label => Asked::Label,
+        Query::Reach(source) => Asked::Reach(*source),
+        Query::Sim(_) => Asked::Sim,
+    }
+}
+
+/// What a job has: its query, settings, vertices with labels, and edges between indexes.
 #[derive(Clone, Copy)]
 struct Wanted {
-    source: u32,
+    query: Asked,
     fragments: u32,
     cut: Cut,
     vertices: &'static [(u32, u32)],
     edges: &'static [(u32, u32, u32)],
 }
 
-fn job_table() -> [(&'static [u8], Wanted); 6] {
+fn job_table() -> [(&'static [u8], Wanted); 9] {
     let plain = Wanted {
-        source: 0,
+        query: Asked::Dist(0),
         fragments: 4,
         cut: Cut::Hash,
         vertices: &[(0, 0), (11342, 0), (824020, 0)],
@@ -159,9 +202,35 @@ fn job_table() -> [(&'static [u8], Wanted); 6] {
             plain,
         ),
         (
+            b"# Directed graph\r\n# FromNodeId\tToNodeId\r\nquery reach 0\r\n0\t11342\r\n0\t824020\r\n11342\t0",
+            Wanted {
+                query: Asked::Reach(0),
+                ..plain
+            },
+        ),
+        (
+            b"query label",
+            Wanted {
+                query: Asked::Label,
+                vertices: &[],
+                edges: &[],
+                ..plain
+            },
+        ),
+        (
+            b"v 8\n query\treach  4294967295 \nv 4294967295\r\nfragments 3",
+            Wanted {
+                query: Asked::Reach(4294967295),
+                fragments: 3,
+                vertices: &[(8, 0), (4294967295, 0)],
+                edges: &[],
+                ..plain
+            },
+        ),
+        (
             b"1 1 0\n% 7 7\n2  1\t4294967295 \n1 2 9\n\nquery dist 2\n1 2 4\n1 2 9\n",
             Wanted {
-                source: 2,
+                query: Asked::Dist(2),
                 vertices: &[(1, 0), (2, 0)],
                 edges: &[
                     (0, 0, 0),
@@ -176,7 +245,7 @@ fn job_table() -> [(&'static [u8], Wanted); 6] {
         (
             b"query dist 7\nv 7 0",
             Wanted {
-                source: 7,
+                query: Asked::Dist(7),
                 vertices: &[(7, 0)],
                 edges: &[],
                 ..plain
@@ -185,7 +254,7 @@ fn job_table() -> [(&'static [u8], Wanted); 6] {
         (
             b"v 9 3\n5 8\nv 8 4294967295\nv 4294967295\n cut\trange\nfragments 64\nv 5 007\r\n8 1 2\nquery dist 9\nv 0\t1",
             Wanted {
-                source: 9,
+                query: Asked::Dist(9),
                 fragments: 64,
                 cut: Cut::Range,
                 vertices: &[
@@ -202,7 +271,7 @@ fn job_table() -> [(&'static [u8], Wanted); 6] {
         (
             b"fragments 1\nv 1 1\nv 2 2\nv 3 3\nv 4 4\ncut hash\nquery dist 4\n3 1\n",
             Wanted {
-                source: 4,
+                query: Asked::Dist(4),
                 fragments: 1,
                 vertices: &[(1, 1), (2, 2), (3, 3), (4, 4)],
                 edges: &[(2, 0, 1)],
@@ -212,7 +281,7 @@ fn job_table() -> [(&'static [u8], Wanted); 6] {
         (
             b"v 4 4\nv 3 3\nv 1 1\nv 2 2\nquery dist 1\nfragments 02",
             Wanted {
-                source: 1,
+                query: Asked::Dist(1),
                 fragments: 2,
                 vertices: &[(1, 1), (2, 2), (3, 3), (4, 4)],
                 edges: &[],
@@ -223,7 +292,7 @@ fn job_table() -> [(&'static [u8], Wanted); 6] {
 }
 
 fn check_job(rt: &impl Abort, alloc: Global, job: &Job, want: &Wanted) -> Result<(), Fail> {
-    assert!(rt; matches!(job.query, Query::Dist(source) if source == want.source));
+    assert_eq!(rt; question_of(&job.query), want.query);
     assert_eq!(rt; job.settings.fragments, want.fragments);
     assert_eq!(rt; job.settings.cut, want.cut);
     assert_eq!(rt; job.settings.lanes, 1);

@@ -1,6 +1,6 @@
 ghost use Rattle.std.specs.Prelude.{◌≡◌, [], codes, replicate};
 ghost use Rattle.graph_text.specs.Input.{input_of, shown_of, bad};
-ghost use Rattle.graph_text.specs.Rows.{detour_job, to_and_fro, alone_job, labelled_job};
+ghost use Rattle.graph_text.specs.Rows.{detour_job, to_and_fro, alone_job, labelled_job, empty_job, download_job};
 
 use crate::fault::Why;
 
@@ -11,7 +11,15 @@ pub fn rows()
     ensures empty { input_of [] ≡ Err (bad 1 Why.NoQuery) }
     ensures keyword { input_of (codes "hello") ≡ Err (bad 1 Why.Word) }
     ensures query_word { input_of (codes "query foo") ≡ Err (bad 1 Why.Word) }
-    ensures unbuilt_query { input_of (codes "query label") ≡ Err (bad 1 Why.Word) }
+    ensures unbuilt_query { input_of (codes "query sim") ≡ Err (bad 1 Why.Word) }
+    ensures labels { input_of (codes "query label") ≡ Ok empty_job }
+    ensures labels_count { input_of (codes "query label 1") ≡ Err (bad 1 Why.Count) }
+    ensures reach_count { input_of (codes "query reach") ≡ Err (bad 1 Why.Count) }
+    ensures reach_number { input_of (codes "query reach x") ≡ Err (bad 1 Why.Number) }
+    ensures reach_range { input_of (codes "query reach 4294967296") ≡ Err (bad 1 Why.Range) }
+    ensures other_query { input_of (codes "query label\nquery reach 1\n") ≡ Err (bad 2 Why.Twice) }
+    ensures reach_source { input_of (codes "query reach 9\n1 2\n") ≡ Err (bad 3 Why.NoSource) }
+    ensures download { input_of (codes "# Directed graph\r\n# FromNodeId\tToNodeId\r\nquery reach 0\r\n0\t11342\r\n0\t824020\r\n11342\t0") ≡ Ok download_job }
     ensures unbuilt_keyword { input_of (codes "lanes 2") ≡ Err (bad 1 Why.Word) }
     ensures fragments { input_of (codes "fragments 65") ≡ Err (bad 1 Why.Range) }
     ensures no_fragments { input_of (codes "fragments 0") ≡ Err (bad 1 Why.Range) }
