@@ -1,0 +1,5 @@
+pub mod Bodies
+pub mod Fields
+pub mod Lengths
+pub mod Reading
+pub mod Rules
