@@ -1,0 +1,5 @@
+pub mod Moments
+pub mod Overwritten
+pub mod Picking
+pub mod Standing
+pub mod Torn

@@ -1,0 +1,10 @@
+pub mod FileDisks
+pub mod Histories
+pub mod Images
+pub mod Laws
+pub mod MemDisks
+pub mod Picks
+pub mod Placed
+pub mod Platters
+pub mod Steps
+pub mod Whole
