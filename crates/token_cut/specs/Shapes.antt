@@ -1,9 +1,10 @@
 -- The shape of a job's snapshots as contracts see it: the order of its values, and for each worker the start values of its own vertices and of its mirrors.
-use Rattle.std.specs.Prelude.{◌≡◌, ℕ, ◌+◌, ◌<◌, ◌≤◌, List, [], ◌∷◌, length}
+use Rattle.std.specs.Prelude.{◌≡◌, ℕ, ◌+◌, ◌<◌, ◌≤◌, List, [], ◌∷◌, ◌++◌, map, replicate, length}
 use Rattle.std.specs.List.{AllByRecursion}
 use Rattle.value_order.specs.declared.order.Order.{Order}
 use Rattle.value_order.specs.declared.TheConstants.{NOTHING}
-use Rattle.token_cut.specs.Parts.{PartValues}
+use Rattle.token_cut.specs.declared.phase.Phase.TheVariants.{Fresh}
+use Rattle.token_cut.specs.Parts.{PartValues, SnapshotParts}
 
 pub record PartStarts : Type 0 where
   pub owned : List ℕ
@@ -31,3 +32,11 @@ HaveShape [] [] = Unit {0}
 HaveShape (starts ∷ shape) (part ∷ parts) =
     (length part.values ≡ length starts.owned + length starts.mirrors) × (length part.mail ≡ length starts.mirrors) × HaveShape shape parts
 HaveShape shape parts = ⊥
+
+-- the start values, and no mail
+abbrev pub fresh_part : PartStarts → PartValues
+fresh_part starts = record { phase = Fresh; values = starts.owned ++ starts.mirrors; mail = replicate (length starts.mirrors) NOTHING }
+
+-- the beginning of a run
+abbrev pub fresh_snapshot : Starts → SnapshotParts
+fresh_snapshot shape = record { epoch = 0; parts = map fresh_part shape.parts }
