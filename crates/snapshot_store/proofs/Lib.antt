@@ -5,4 +5,6 @@ pub mod Moments
 pub mod Pieces
 pub mod Prefix
 pub mod Put
+pub mod Read
 pub mod TwoSlots
+pub mod Wrong

@@ -1,5 +1,5 @@
 -- How the images since a moment grow over the calls of a disk.
-use Rattle.std.proofs.Common.{◌≡◌, inl, inr, ⊎_elim, ℕ, ◌≤◌, List, Option, subst, arith}
+use Rattle.std.proofs.Common.{inl, inr, ⊎_elim, ℕ, ◌≤◌, List, Option, subst, arith}
 use Rattle.grape_disk.specs.Images.{AtRest, Quiet, Writes, Leaves, Torn}
 
 module _ {D : Type 0} (content : D → Option (List ℕ)) (images : D → ℕ → List ℕ → Type 0) (moment : D → ℕ) where

@@ -1,12 +1,17 @@
 -- A longer file is read as if it ended where a file of the shape does.
-use Rattle.std.proofs.Common.{◌≡◌, ℕ, ◌+◌, ◌<◌, ◌≤◌, min, Bool, not, ◌||◌, nat_lt, if◌then◌else◌, List, take, drop, length, Option, Some, is_some, sym, ◌∙◌, ap, arith, length-take, length-drop}
+use Rattle.std.proofs.Common.{◌≡◌, ℕ, ◌+◌, ◌<◌, ◌≤◌, min, Bool, not, ◌||◌, nat_lt, if◌then◌else◌, List, take, drop, length, Option, Some, is_some, Result, Ok, Err, subst, sym, ◌∙◌, ap, arith, length-take, length-drop}
 use Rattle.std.proofs.lemmas.Bool.Decides.{nat_tests}
-use Rattle.std.proofs.lemmas.List.{ext_get_or, get_or-take, get_or-drop, take-take}
+use Rattle.std.proofs.lemmas.List.{ext_get_or, get_or-take, get_or-drop, take-take, take_min}
 use Rattle.grape_disk.specs.Images.{piece}
 use Rattle.token_cut.specs.Shapes.{Starts}
 use Rattle.snapshot_file.specs.Lengths.{slot_length, file_length}
-use Rattle.snapshot_store.specs.State.{FileState, is_open, first_wrong, damaged_if, header, by_header, by_slots, or_by_slots, slot, slot_place, file_state}
+use Rattle.snapshot_store.specs.State.{FileState, IsKept, HasEpoch, is_open, first_wrong, damaged_if, header, by_header, by_slots, or_by_slots, slot, slot_place, file_state}
 use Rattle.snapshot_store.specs.State.FileState.{nothing, other}
+use Rattle.snapshot_store.specs.Opening.{OpensAs}
+use Rattle.snapshot_store.specs.declared.fault.StoreFault.{StoreFault}
+use Rattle.snapshot_store.specs.declared.fault.StoreFault.TheVariants.{Disk, Other, Damaged, NoMemory}
+use Rattle.snapshot_store.specs.declared.opened.Opened.{Opened}
+use Rattle.snapshot_store.specs.declared.opened.Opened.TheVariants.{Nothing, Last}
 
 -- the tests on the length see no more of it
 size_tests : (n len : ℕ) (shut wrong : Bool) (x y : Option FileState) (r : Option FileState) → 64 ≤ len
@@ -44,3 +49,31 @@ state_of_prefix shape digest file =
     (drop_take (slot_place shape 0) (slot_length shape) (file_length shape) file (omega arith))
     ∙ ap (λ (s : List ℕ). or_by_slots (by_header shape digest (length file) (take 64 file)) (by_slots shape (slot shape 0 file) s))
     (drop_take (slot_place shape 1) (slot_length shape) (file_length shape) file (omega arith))
+
+same_slots : (shape : Starts) (file : List ℕ) → by_slots shape (slot shape 0 (take (file_length shape) file)) (slot shape 1 (take (file_length shape) file)) ≡ by_slots shape (slot shape 0 file) (slot shape 1 file)
+same_slots shape file =
+    ap (λ (s : List ℕ). by_slots shape s (slot shape 1 (take (file_length shape) file))) (drop_take (slot_place shape 0) (slot_length shape) (file_length shape) file (omega arith))
+    ∙ ap (by_slots shape (slot shape 0 file)) (drop_take (slot_place shape 1) (slot_length shape) (file_length shape) file (omega arith))
+
+kept_of_prefix : (shape : Starts) (digest file : List ℕ) (n : ℕ) → IsKept shape digest n (take (file_length shape) file) → IsKept shape digest n file
+kept_of_prefix shape digest file n kept = record {
+  whole = sym (same_header shape digest file) ∙ kept.whole;
+  kept = subst (HasEpoch n) (same_slots shape file) kept.kept;
+}
+
+-- what was read is the front of the file
+pub front_is : (file bytes : List ℕ) (n size len : ℕ) → bytes ≡ piece 0 n file → n ≡ min size len → size ≡ length file → bytes ≡ take len file
+front_is file bytes n size len is n_is size_is =
+    let least : n ≡ min len (length file) = omega (arith, n_is, size_is) in
+    is ∙ ap (λ (m : ℕ). take m file) least ∙ take_min len file
+
+pub opens_prefix : (shape : Starts) (digest file bytes : List ℕ) (r : Result Opened StoreFault) → bytes ≡ take (file_length shape) file → OpensAs shape digest bytes r → OpensAs shape digest file r
+opens_prefix shape digest file bytes r is opens = whole r (subst (λ (l : List ℕ). OpensAs shape digest l r) is opens)
+  where
+    whole : (r : Result Opened StoreFault) → OpensAs shape digest (take (file_length shape) file) r → OpensAs shape digest file r
+    whole (Ok Nothing) opens = sym (state_of_prefix shape digest file) ∙ opens
+    whole (Ok (Last store snapshot)) opens = (sym (state_of_prefix shape digest file) ∙ opens.0, kept_of_prefix shape digest file snapshot.epoch opens.1, opens.2, opens.3)
+    whole (Err (Other kept here)) opens = (sym (state_of_prefix shape digest file) ∙ opens.0, opens.1)
+    whole (Err (Damaged place)) opens = sym (state_of_prefix shape digest file) ∙ opens
+    whole (Err Disk) opens = tt
+    whole (Err NoMemory) opens = tt

@@ -48,3 +48,11 @@ SlotSays state (Ok snapshot) = state ≡ last snapshot
 SlotSays state (Err (Damaged place)) = state ≡ damaged place
 SlotSays state (Err NoMemory) = Unit {0}
 SlotSays state (Err _) = ⊥
+
+-- what reading both tells
+abbrev pub SlotsSay : FileState → Result (Option SnapshotParts) StoreFault → Type 0
+SlotsSay state (Ok None) = state ≡ nothing
+SlotsSay state (Ok (Some snapshot)) = state ≡ last snapshot
+SlotsSay state (Err (Damaged place)) = state ≡ damaged place
+SlotsSay state (Err NoMemory) = Unit {0}
+SlotsSay state (Err _) = ⊥

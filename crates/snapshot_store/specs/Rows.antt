@@ -29,6 +29,23 @@ hundred_bytes =
     ++ replicate 18 0
     ++ 0x47 ∷ 0 ∷ 0 ∷ 0 ∷ 0 ∷ 0 ∷ 0 ∷ 0 ∷ 1 ∷ 1 ∷ 0 ∷ 0 ∷ 0 ∷ 0 ∷ 0 ∷ 0 ∷ 0 ∷ 0 ∷ []
 
+-- the same, and behind it what no file has
+abbrev pub longer_file : List ℕ
+longer_file = hundred_bytes ++ 7 ∷ 7 ∷ 7 ∷ []
+
+abbrev pub second_kept : SnapshotParts
+second_kept = record { epoch = 2; parts = record { phase = Rest; values = 0 ∷ []; mail = [] } ∷ [] }
+
+-- the second snapshot in slot 0, and the first one still in slot 1
+abbrev pub two_open : List ℕ
+two_open =
+    0x47 ∷ 0x52 ∷ 0x41 ∷ 0x50 ∷ 0x45 ∷ 0x53 ∷ 0x54 ∷ 0x31 ∷ []
+    ++ digest
+    ++ 0 ∷ 0 ∷ 0 ∷ 0 ∷ 0 ∷ 0 ∷ 0 ∷ 0x12 ∷ []
+    ++ replicate 16 0
+    ++ 0x47 ∷ 0 ∷ 0 ∷ 0 ∷ 0 ∷ 0 ∷ 0 ∷ 0 ∷ 2 ∷ 1 ∷ 0 ∷ 0 ∷ 0 ∷ 0 ∷ 0 ∷ 0 ∷ 0 ∷ 0 ∷ []
+    ++ 0x47 ∷ 0 ∷ 0 ∷ 0 ∷ 0 ∷ 0 ∷ 0 ∷ 0 ∷ 1 ∷ 1 ∷ 0 ∷ 0 ∷ 0 ∷ 0 ∷ 0 ∷ 0 ∷ 0 ∷ 0 ∷ []
+
 -- six vertices in three parts, each with its own number as start
 abbrev pub six_vertices : Starts
 six_vertices = record {

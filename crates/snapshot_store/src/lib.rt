@@ -14,7 +14,9 @@ mod opened;
 mod slots;
 mod steps;
 mod store;
+mod worked;
 
 pub use fault::StoreFault;
 pub use opened::Opened;
 pub use store::Store;
+pub use worked::worked_files;

@@ -8,11 +8,11 @@ ghost use Rattle.snapshot_store.specs.declared.fault.StoreFault.TheVariants.{Dis
 use crate::fault::StoreFault;
 use crate::header::check_header;
 use crate::opened::Opened;
-use crate::slots::{newest, read_slot};
+use crate::slots::read_slots;
 use crate::store::Store;
 use grape_disk::Disk;
 use grape_port::NoMemory;
-use snapshot_file::{file_len, slot_len};
+use snapshot_file::file_len;
 use std::alloc::Global;
 use token_cut::Shape;
 
@@ -74,14 +74,8 @@ fn opened_from(
     if !check_header(alloc, bytes, shape, digest)? {
         return Ok(Opened::Nothing);
     }
-    let size = slot_len(shape);
-    let (_, behind) = bytes.split_at(64);
-    let (zero, behind) = behind.split_at(size as usize);
-    let (one, _) = behind.split_at(size as usize);
-    let snapshot = match newest(zero, one) {
-        Some(0) => read_slot(alloc, zero, 64, 0, shape)?,
-        Some(_) => read_slot(alloc, one, 64 + size, 1, shape)?,
-        None => return Ok(Opened::Nothing),
+    let Some(snapshot) = read_slots(alloc, bytes, shape)? else {
+        return Ok(Opened::Nothing);
     };
     let last = snapshot.epoch;
     let store = Store {
