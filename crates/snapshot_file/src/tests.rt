@@ -1,3 +1,6 @@
+ghost use Rattle.std.specs.Prelude.{◌≡◌, IfOk};
+ghost use Rattle.snapshot_file.specs.Examples.{six_vertices, sealed, marked};
+
 use crate::{Damaged, body_len, decode, encode, epoch_of, file_len, phase_place, slot_len};
 use grape_port::NoMemory;
 use std::alloc::Global;
@@ -5,29 +8,29 @@ use std::test::Fail;
 use token_cut::{Part, Phase, Shape, ShapePart, Snapshot};
 use value_order::{NOTHING, Order};
 
-fn numbers(alloc: Global, from: &[u64]) -> Result<Vec<u64>, NoMemory> {
-    let mut numbers = Vec::new(alloc);
-    numbers.extend_from_slice(from)?;
-    Ok(numbers)
+fn starts(alloc: Global, owned: &[u64], mirrors: &[u64]) -> Result<ShapePart, NoMemory>
+    ensures { IfOk result (λ part. part ≡ record { owned = owned.now; mirrors = mirrors.now }) }
+{
+    let owned = Vec::from_slice(alloc, owned)?;
+    let mirrors = Vec::from_slice(alloc, mirrors)?;
+    Ok(ShapePart { owned, mirrors })
 }
 
-fn starts(alloc: Global, owned: &[u64], mirrors: &[u64]) -> Result<ShapePart, NoMemory> {
-    Ok(ShapePart {
-        owned: numbers(alloc, owned)?,
-        mirrors: numbers(alloc, mirrors)?,
-    })
-}
-
-fn part(alloc: Global, phase: Phase, values: &[u64], mail: &[u64]) -> Result<Part, NoMemory> {
+fn part(alloc: Global, phase: Phase, values: &[u64], mail: &[u64]) -> Result<Part, NoMemory>
+    ensures { IfOk result (λ part. part ≡ record { phase = phase; values = values.now; mail = mail.now }) }
+{
+    let values = Vec::from_slice(alloc, values)?;
+    let mail = Vec::from_slice(alloc, mail)?;
     Ok(Part {
         phase,
-        values: numbers(alloc, values)?,
-        mail: numbers(alloc, mail)?,
+        values,
+        mail,
     })
 }
 
-// Six vertices in three parts, each of which starts with its own number.
-fn six_vertices(alloc: Global) -> Result<Shape, NoMemory> {
+fn six_vertices(alloc: Global) -> Result<Shape, NoMemory>
+    ensures { IfOk result (λ shape. shape ≡ six_vertices) }
+{
     let mut parts = Vec::new(alloc);
     parts.push(starts(alloc, &[1, 2], &[3, 6])?)?;
     parts.push(starts(alloc, &[3, 4], &[2])?)?;
@@ -38,7 +41,9 @@ fn six_vertices(alloc: Global) -> Result<Shape, NoMemory> {
     })
 }
 
-fn sealed(alloc: Global) -> Result<Snapshot, NoMemory> {
+fn sealed(alloc: Global) -> Result<Snapshot, NoMemory>
+    ensures { IfOk result (λ snapshot. snapshot ≡ sealed) }
+{
     let mut parts = Vec::new(alloc);
     parts.push(part(alloc, Phase::Fresh, &[1, 2, 3, 6], &[2, 1])?)?;
     parts.push(part(alloc, Phase::Rest, &[2, 4, 2], &[NOTHING])?)?;
@@ -46,8 +51,9 @@ fn sealed(alloc: Global) -> Result<Snapshot, NoMemory> {
     Ok(Snapshot { epoch: 1, parts })
 }
 
-// A snapshot of the same shape with a number in each field that stands nowhere else.
-fn marked(alloc: Global) -> Result<Snapshot, NoMemory> {
+fn marked(alloc: Global) -> Result<Snapshot, NoMemory>
+    ensures { IfOk result (λ snapshot. snapshot ≡ marked) }
+{
     let mut parts = Vec::new(alloc);
     parts.push(part(alloc, Phase::Rest, &[101, 102, 103, 104], &[105, 106])?)?;
     parts.push(part(alloc, Phase::Fresh, &[107, 108, 109], &[110])?)?;
@@ -55,29 +61,44 @@ fn marked(alloc: Global) -> Result<Snapshot, NoMemory> {
     Ok(Snapshot { epoch: 100, parts })
 }
 
-fn body_of(alloc: Global, snapshot: &Snapshot) -> Result<Vec<u8>, NoMemory> {
+fn sealed_body(alloc: Global) -> Result<Vec<u8>, NoMemory> {
+    let snapshot = sealed(alloc)?;
     let mut body = Vec::with_capacity(alloc, 123)?;
-    if snapshot.parts.len() == 3 {
-        encode(snapshot, &mut body);
-    }
+    encode(&snapshot, &mut body);
     Ok(body)
 }
 
-#[test]
-fn a_body_has_its_bytes_in_order(rt: HostRuntime) -> Result<(), Fail> {
-    let alloc = rt.alloc();
-    let mut parts = Vec::new(alloc);
-    parts.push(part(alloc, Phase::Rest, &[0x0102030405060708, 0], &[NOTHING])?)?;
-    let snapshot = Snapshot { epoch: 258, parts };
-    let mut body = Vec::with_capacity(alloc, 34)?;
-    body.push(7)?;
-    encode(&snapshot, &mut body);
-    let bytes = [
-        7, 0, 0, 0, 0, 0, 0, 1, 2, 1, 1, 2, 3, 4, 5, 6, 7, 8, 0, 0, 0, 0, 0, 0, 0, 0, 255, 255,
-        255, 255, 255, 255, 255, 255,
-    ];
-    assert_eq!(rt; body.as_slice(), bytes.as_slice());
-    Ok(())
+// What the marked snapshot becomes where a body is read into it, and the answer; none for a body of
+// another length.
+fn read_marked(
+    alloc: Global,
+    body: &[u8],
+    base: u64,
+) -> Result<Option<(Result<(), Damaged>, Snapshot)>, NoMemory> {
+    let shape = six_vertices(alloc)?;
+    let mut snapshot = marked(alloc)?;
+    if body.len() as u64 != body_len(&shape) || base > 1 << 62 {
+        return Ok(None);
+    }
+    let answer = decode(body, base, 1, &shape, &mut snapshot);
+    Ok(Some((answer, snapshot)))
+}
+
+fn has_part(part: &Part, phase: Phase, values: &[u64], mail: &[u64]) -> bool {
+    part.phase == phase && part.values.as_slice() == values && part.mail.as_slice() == mail
+}
+
+fn has_parts(snapshot: &Snapshot, want: [(Phase, &[u64], &[u64]); 3]) -> bool {
+    if snapshot.parts.len() != 3 {
+        return false;
+    }
+    for i in 0..3 {
+        let (phase, values, mail) = want[i];
+        if !has_part(&snapshot.parts[i], phase, values, mail) {
+            return false;
+        }
+    }
+    true
 }
 
 #[test]
@@ -95,43 +116,35 @@ fn lengths_and_places(rt: HostRuntime) -> Result<(), Fail> {
 #[test]
 fn a_body_reads_back(rt: HostRuntime) -> Result<(), Fail> {
     let alloc = rt.alloc();
-    let shape = six_vertices(alloc)?;
-    let snapshot = sealed(alloc)?;
-    let body = body_of(alloc, &snapshot)?;
+    let body = sealed_body(alloc)?;
     assert_eq!(rt; body.len(), 123);
-    assert_eq!(rt; epoch_of(&body), 1);
-    let mut read = marked(alloc)?;
-    assert_eq!(rt; decode(&body, 189, 1, &shape, &mut read), Ok(()));
-    assert_eq!(rt; read.epoch, 1);
-    for i in 0..3 {
-        assert_eq!(rt; read.parts[i].phase, snapshot.parts[i].phase);
-        assert_eq!(rt;
-            read.parts[i].values.as_slice(),
-            snapshot.parts[i].values.as_slice()
-        );
-        assert_eq!(rt;
-            read.parts[i].mail.as_slice(),
-            snapshot.parts[i].mail.as_slice()
-        );
+    assert!(rt; body.starts_with(&[0, 0, 0, 0, 0, 0, 0, 1, 0, 0, 0, 0, 0, 0, 0, 0, 1]));
+    assert!(rt; body.ends_with(&[0, 1, 255, 255, 255, 255, 255, 255, 255, 255]));
+    let read = read_marked(alloc, &body, 189)?;
+    assert!(rt; read.is_some());
+    if let Some((answer, snapshot)) = read {
+        assert_eq!(rt; answer, Ok(()));
+        assert_eq!(rt; snapshot.epoch, 1);
+        let want: [(Phase, &[u64], &[u64]); 3] = [
+            (Phase::Fresh, &[1, 2, 3, 6], &[2, 1]),
+            (Phase::Rest, &[2, 4, 2], &[NOTHING]),
+            (Phase::Rest, &[1, 1, 1], &[NOTHING]),
+        ];
+        assert!(rt; has_parts(&snapshot, want));
     }
     Ok(())
 }
 
-// One byte of the body is another one; the place of the wrong field is in a file where the body
-// stands at 1,000.
-#[test]
-fn the_first_wrong_field_is_named(rt: HostRuntime) -> Result<(), Fail> {
-    let alloc = rt.alloc();
-    let shape = six_vertices(alloc)?;
-    let snapshot = sealed(alloc)?;
-    let table: [(usize, u8, u64); 9] = [
-        // no epoch, an epoch of the other slot, an epoch of 2^62 + 1
+// A byte of the body is another one, and the body stands at place 1,000 of the file.
+fn damages() -> [(usize, u8, u64); 9] {
+    [
+        // no epoch, an epoch of the other slot, an epoch of more than 2^62
         (7, 0, 1000),
         (7, 2, 1000),
         (0, 0x40, 1000),
         // no phase
         (8, 2, 1008),
-        // a value of a part that has not begun, which is not the start
+        // a value of a part that has not begun, which isn't the start
         (16, 0, 1009),
         // mail above the start of its mirror
         (48, 4, 1041),
@@ -139,68 +152,48 @@ fn the_first_wrong_field_is_named(rt: HostRuntime) -> Result<(), Fail> {
         (65, 4, 1058),
         (74, 1, 1074),
         (89, 254, 1082),
-    ];
-    for (at, byte, place) in table {
-        let mut body = body_of(alloc, &snapshot)?;
-        body[at] = byte;
-        let mut read = marked(alloc)?;
-        assert_eq!(rt;
-            decode(&body, 1000, 1, &shape, &mut read),
-            Err(Damaged { place })
-        );
+    ]
+}
+
+#[test]
+fn the_first_wrong_field_is_named(rt: HostRuntime) -> Result<(), Fail> {
+    let alloc = rt.alloc();
+    for (at, byte, place) in damages() {
+        let mut body = sealed_body(alloc)?;
+        if at < body.len() {
+            body[at] = byte;
+        }
+        let read = read_marked(alloc, &body, 1000)?;
+        assert!(rt; matches!(read, Some((Err(damaged), _)) if damaged == Damaged { place }));
     }
     Ok(())
 }
 
+// The second value of the second part is 5, and its start is 4.
 #[test]
 fn only_the_fields_before_the_wrong_one_are_replaced(rt: HostRuntime) -> Result<(), Fail> {
     let alloc = rt.alloc();
-    let shape = six_vertices(alloc)?;
-    let mut body = body_of(alloc, &sealed(alloc)?)?;
-    // the second value of the second part is 5, and its start is 4
-    body[73] = 5;
-    let mut read = marked(alloc)?;
-    assert_eq!(rt;
-        decode(&body, 189, 1, &shape, &mut read),
-        Err(Damaged { place: 255 })
-    );
-    assert_eq!(rt; read.epoch, 1);
-    assert_eq!(rt; read.parts[0].phase, Phase::Fresh);
-    assert_eq!(rt; read.parts[0].values.as_slice(), [1, 2, 3, 6].as_slice());
-    assert_eq!(rt; read.parts[0].mail.as_slice(), [2, 1].as_slice());
-    assert_eq!(rt; read.parts[1].phase, Phase::Rest);
-    assert_eq!(rt; read.parts[1].values.as_slice(), [2, 108, 109].as_slice());
-    assert_eq!(rt; read.parts[1].mail.as_slice(), [110].as_slice());
-    assert_eq!(rt; read.parts[2].phase, Phase::Fresh);
-    assert_eq!(rt; read.parts[2].values.as_slice(), [111, 112, 113].as_slice());
+    let mut body = sealed_body(alloc)?;
+    if body.len() > 73 {
+        body[73] = 5;
+    }
+    let read = read_marked(alloc, &body, 189)?;
+    assert!(rt; read.is_some());
+    if let Some((answer, snapshot)) = read {
+        assert_eq!(rt; answer, Err(Damaged { place: 255 }));
+        assert_eq!(rt; snapshot.epoch, 1);
+        let want: [(Phase, &[u64], &[u64]); 3] = [
+            (Phase::Fresh, &[1, 2, 3, 6], &[2, 1]),
+            (Phase::Rest, &[2, 108, 109], &[110]),
+            (Phase::Fresh, &[111, 112, 113], &[114]),
+        ];
+        assert!(rt; has_parts(&snapshot, want));
+    }
     Ok(())
 }
 
-// With masks a value lies below its start where it has no other bit.
 #[test]
-fn bits_are_compared_as_bits(rt: HostRuntime) -> Result<(), Fail> {
-    let alloc = rt.alloc();
-    let mut parts = Vec::new(alloc);
-    parts.push(starts(alloc, &[6], &[])?)?;
-    let shape = Shape {
-        order: Order::Mask,
-        parts,
-    };
-    for value in 0..8 {
-        let mut parts = Vec::new(alloc);
-        parts.push(part(alloc, Phase::Rest, &[value], &[])?)?;
-        let snapshot = Snapshot { epoch: 4, parts };
-        let mut body = Vec::with_capacity(alloc, 17)?;
-        encode(&snapshot, &mut body);
-        let mut parts = Vec::new(alloc);
-        parts.push(part(alloc, Phase::Fresh, &[9], &[])?)?;
-        let mut read = Snapshot { epoch: 0, parts };
-        let answer = if value % 2 == 0 {
-            Ok(())
-        } else {
-            Err(Damaged { place: 74 })
-        };
-        assert_eq!(rt; decode(&body, 65, 0, &shape, &mut read), answer);
-    }
+fn an_epoch_is_read_highest_byte_first(rt: HostRuntime) -> Result<(), Fail> {
+    assert_eq!(rt; epoch_of(&[1, 2, 3, 4, 5, 6, 7, 8, 9]), 0x0102030405060708);
     Ok(())
 }
