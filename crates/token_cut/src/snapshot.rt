@@ -1,5 +1,14 @@
+ghost use Rattle.std.specs.Prelude.{◌≡◌, IfOk};
+ghost use Rattle.token_cut.specs.Shapes.{IsShape, fresh_part, fresh_snapshot};
+
 use crate::part::Part;
+use crate::phase::Phase;
+use crate::shape::Shape;
+use crate::shape_part::ShapePart;
+use grape_port::NoMemory;
+use std::alloc::Global;
 use std::marker::Model;
+use value_order::NOTHING;
 
 /// The state of a run at a consistent cut. Contracts see the epoch and the list of parts.
 #[derive(Drop)]
@@ -16,4 +25,32 @@ impl Model for Snapshot {
     ghost Value = { SnapshotParts };
 
     ghost view = { λ s. record { epoch = s.epoch; parts = s.parts.items } };
+}
+
+impl Snapshot {
+    /// The beginning of a run: epoch 0, and every part fresh with the start values and no mail.
+    pub fn fresh(alloc: Global, shape: &Shape) -> Result<Snapshot, NoMemory>
+        requires { IsShape shape.now }
+        ensures { IfOk result (λ snapshot. snapshot ≡ fresh_snapshot shape.now) }
+    {
+        let mut parts = Vec::with_capacity(alloc, shape.parts.len())?;
+        for starts in &shape.parts {
+            parts.push(fresh_part(alloc, starts)?)?;
+        }
+        Ok(Snapshot { epoch: 0, parts })
+    }
+}
+
+fn fresh_part(alloc: Global, starts: &ShapePart) -> Result<Part, NoMemory>
+    ensures { IfOk result (λ part. part ≡ fresh_part starts.now) }
+{
+    let mut values = Vec::with_capacity(alloc, starts.owned.len())?;
+    values.extend_from_slice(&starts.owned)?;
+    values.extend_from_slice(&starts.mirrors)?;
+    let mail = vec![in alloc; NOTHING; starts.mirrors.len()]?;
+    Ok(Part {
+        phase: Phase::Fresh,
+        values,
+        mail,
+    })
 }

@@ -1,0 +1,7 @@
+pub mod Exits
+pub mod Filling
+pub mod FormOf
+pub mod Parts
+pub mod ReadBack
+pub mod Run
+pub mod Steps

@@ -1,0 +1,6 @@
+pub mod Bodies
+pub mod Examples
+pub mod Fields
+pub mod Lengths
+pub mod Reading
+pub mod Rules

@@ -1,0 +1,43 @@
+-- How the images since a moment grow over the calls of a disk.
+use Rattle.std.proofs.Common.{inl, inr, ⊎_elim, ℕ, ◌≤◌, List, Option, subst, arith}
+use Rattle.grape_disk.specs.Images.{AtRest, Quiet, Writes, Leaves, Torn}
+
+module _ {D : Type 0} (content : D → Option (List ℕ)) (images : D → ℕ → List ℕ → Type 0) (moment : D → ℕ) where
+  -- no call made
+  pub leaves_nothing : (disk : D) (P : List ℕ → Type 0) → Leaves images moment disk disk P
+  leaves_nothing disk P = record { later = omega arith; each = λ t c le image. inl image }
+
+  -- a call that writes nothing
+  pub leaves_quiet : (old new : D) (P : List ℕ → Type 0) → moment old ≤ moment new → Quiet images moment old new → Leaves images moment old new P
+  leaves_quiet old new P later quiet = record { later = later; each = λ t c le image. inl (quiet.since t c le image) }
+
+  -- a write to a disk with nothing pending
+  pub leaves_write : (old new : D) (file : List ℕ) (at n : ℕ) → moment old ≤ moment new → AtRest content images moment old file → Writes images moment at n old new
+      → Leaves images moment old new (Torn at n file)
+  leaves_write old new file at n later rest writes = record {
+    later = later;
+    each = λ t c le image. ⊎_elim (λ before. inl before) (λ torn. inr (subst (λ f. Torn at n f c) (rest.only torn.0 torn.1) torn.2)) (writes.since t c le image);
+  }
+
+  -- one step after another
+  pub leaves_then : (old mid new : D) (P Q R : List ℕ → Type 0) → Leaves images moment old mid P → Leaves images moment mid new Q → ((c : List ℕ) → P c → R c) → ((c : List ℕ) → Q c → R c)
+      → Leaves images moment old new R
+  leaves_then old mid new P Q R first second from_p from_q = record {
+    later = omega (arith, first.later, second.later);
+    each = λ t c le image. ⊎_elim (λ before. ⊎_elim (λ b. inl b) (λ p. inr (from_p c p)) (first.each t c le before)) (λ q. inr (from_q c q)) (second.each t c (omega (arith, le, first.later)) image);
+  }
+
+  pub leaves_only : (old new : D) (P R : List ℕ → Type 0) → Leaves images moment old new P → ((c : List ℕ) → P c → R c) → Leaves images moment old new R
+  leaves_only old new P R leaves from = record {
+    later = leaves.later;
+    each = λ t c le image. ⊎_elim (λ b. inl b) (λ p. inr (from c p)) (leaves.each t c le image);
+  }
+
+  -- writes one after another, where each keeps what holds of every image
+  pub leaves_within : (mid new : D) (Q : List ℕ → Type 0) (at n : ℕ) → moment mid ≤ moment new → Writes images moment at n mid new
+      → ((d c : List ℕ) → Q d → Torn at n d c → Q c) → ((c : List ℕ) → images mid (moment mid) c → Q c)
+      → Leaves images moment mid new Q × ((c : List ℕ) → images new (moment new) c → Q c)
+  leaves_within mid new Q at n later writes keeps all = (
+    record { later = later; each = λ t c le image. ⊎_elim (λ before. inl before) (λ torn. inr (keeps torn.0 c (all torn.0 torn.1) torn.2)) (writes.since t c le image) },
+    λ c image. let torn = writes.now c image in keeps torn.0 c (all torn.0 torn.1) torn.2,
+  )

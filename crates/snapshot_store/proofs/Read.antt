@@ -1,0 +1,174 @@
+-- What the steps of an open tell of the whole file.
+use Rattle.std.proofs.Common.{◌≡◌, ◌≢◌, ℕ, ◌+◌, ◌<◌, ◌≤◌, Bool, true, false, not, ◌&&◌, ◌||◌, nat_le, nat_lt, if◌then◌else◌, List, [], ◌∷◌, ◌++◌, map, replicate, slice_index, ◌==◌, take, drop, length, Option, Some, None, is_some, Result, Ok, Err, refl, sym, ap, ◌∙◌, subst, arith, length-append}
+use Rattle.std.proofs.lemmas.Bool.Decides.{nat_tests}
+use Rattle.std.proofs.lemmas.List.{length-replicate, get_or-take, take_at, drop-drop}
+use Rattle.byteorder.specs.Endian.{big_bytes}
+use Rattle.byteorder.specs.Numbers.{length-bytes_high_first}
+use Rattle.grape_disk.specs.Images.{piece}
+use Rattle.token_cut.specs.Parts.{SnapshotParts}
+use Rattle.token_cut.specs.Shapes.{PartStarts, Starts, HaveShape, fresh_part}
+use Rattle.snapshot_file.specs.Lengths.{slot_length, file_length}
+use Rattle.snapshot_store.specs.State.{FileState, OPEN, NAME, front_bytes, is_open, first_wrong, damaged_if, header, by_header, by_slot, by_slots, or_by_slots, slot, slot_place, file_state, epoch_of, IsKept, HasEpoch}
+use Rattle.snapshot_store.specs.State.FileState.{nothing, other, last}
+use Rattle.snapshot_store.specs.Opening.{newest, SlotSays, SlotsSay}
+use Rattle.snapshot_store.specs.declared.fault.StoreFault.{StoreFault}
+use Rattle.snapshot_store.specs.declared.fault.StoreFault.TheVariants.{Disk, Other, Damaged, NoMemory}
+use Rattle.std.specs.Result.{IsErrAnd}
+
+pub fresh_has : (shape : List PartStarts) → HaveShape shape (map fresh_part shape)
+fresh_has [] = tt
+fresh_has (starts ∷ shape) = (length-append starts.owned starts.mirrors, length-replicate (length starts.mirrors) _, fresh_has shape)
+
+-- ---- the header
+
+module _ (shape : Starts) (digest : List ℕ) (size : ℕ) (front : List ℕ) where
+  abbrev wrong : Option ℕ
+  wrong = first_wrong digest 8 (drop 8 front)
+
+  abbrev says : Bool → Bool → Bool → Option ℕ → Option FileState
+  says closed differs short place = if closed then Some nothing else if differs then Some (other (piece 8 32 front)) else if short then Some nothing else damaged_if place
+
+  pub shut_says : is_open front ≡ false → by_header shape digest size front ≡ Some nothing
+  shut_says shut = closed_case (nat_lt size 64) (is_open front) _ _ shut
+    where
+      closed_case : (a b : Bool) (x y : Option FileState) → b ≡ false → (if a || not b then x else y) ≡ x
+      closed_case true b x y is = refl
+      closed_case false true x y is = cc
+      closed_case false false x y is = refl
+
+  open_says : (differs short : Bool) (place : Option ℕ) → 64 ≤ size → is_open front ≡ true → is_some wrong ≡ differs → nat_lt size (file_length shape) ≡ short → first_wrong (header shape digest) 1 (drop 1 front) ≡ place
+      → by_header shape digest size front ≡ says false differs short place
+  open_says differs short place long opened d s p =
+      ap (λ (b : Bool). if b then Some nothing else if is_some wrong then Some (other (piece 8 32 front)) else if nat_lt size (file_length shape) then Some nothing else damaged_if (first_wrong (header shape digest) 1 (drop 1 front))) (not_closed size (is_open front) long opened)
+      ∙ ap (λ (b : Bool). says false b (nat_lt size (file_length shape)) (first_wrong (header shape digest) 1 (drop 1 front))) d
+      ∙ ap (λ (b : Bool). says false differs b (first_wrong (header shape digest) 1 (drop 1 front))) s
+      ∙ ap (says false differs short) p
+    where
+      not_closed : (size : ℕ) (b : Bool) → 64 ≤ size → b ≡ true → (nat_lt size 64 || not b) ≡ false
+      not_closed size b long is = ap (λ (c : Bool). nat_lt size 64 || not c) is ∙ low size long
+        where
+          low : (size : ℕ) → 64 ≤ size → (nat_lt size 64 || false) ≡ false
+          low size long = grind (arith, nat_tests)
+
+  pub other_says : 64 ≤ size → is_open front ≡ true → is_some wrong ≡ true → by_header shape digest size front ≡ Some (other (piece 8 32 front))
+  other_says long opened differs = open_says true (nat_lt size (file_length shape)) (first_wrong (header shape digest) 1 (drop 1 front)) long opened differs refl refl
+
+  pub short_says : 64 ≤ size → is_open front ≡ true → is_some wrong ≡ false → size < file_length shape → by_header shape digest size front ≡ Some nothing
+  short_says long opened differs short = open_says false true (first_wrong (header shape digest) 1 (drop 1 front)) long opened differs (less size (file_length shape) short) refl
+    where
+      less : (m n : ℕ) → m < n → nat_lt m n ≡ true
+      less m n low = grind (arith, nat_tests)
+
+  pub named_says : (place : Option ℕ) → 64 ≤ size → is_open front ≡ true → is_some wrong ≡ false → file_length shape ≤ size → first_wrong (header shape digest) 1 (drop 1 front) ≡ place → by_header shape digest size front ≡ damaged_if place
+  named_says place long opened differs whole is = open_says false false place long opened differs (not_less size (file_length shape) whole) is
+    where
+      not_less : (m n : ℕ) → n ≤ m → nat_lt m n ≡ false
+      not_less m n high = grind (arith, nat_tests)
+
+pub open_front : (bytes : List ℕ) → slice_index bytes 0 ≡ OPEN → is_open (take 64 bytes) ≡ true
+open_front bytes is = tested (slice_index (take 64 bytes) 0) (get_or-take 64 bytes 0 0 (omega arith) ∙ is)
+  where
+    tested : (b : ℕ) → b ≡ OPEN → (b == OPEN) ≡ true
+    tested b is = grind (arith, nat_tests)
+
+pub header_front : (shape : Starts) (digest front : List ℕ) (size : ℕ) → length digest ≡ 32 → size ≡ slot_length shape → front ≡ front_bytes size digest → take 63 front ≡ header shape digest
+header_front shape digest front size long size_is is =
+    ap (take 63) (is ∙ ap (λ (n : ℕ). front_bytes n digest) size_is)
+    ∙ take_at (header shape digest) (0 ∷ []) 63 (omega (arith, long, length-append (NAME ++ digest ++ big_bytes 8 (slot_length shape)) (replicate 16 0), length-append (NAME ++ digest) (big_bytes 8 (slot_length shape)), length-append NAME digest, length-bytes_high_first 8 (slot_length shape)))
+
+-- ---- the slots
+
+module _ (shape : Starts) (zero one : List ℕ) where
+  abbrev later : Bool
+  later = nat_le (epoch_of one) (epoch_of zero)
+
+  pub no_slot : newest zero one ≡ None → by_slots shape zero one ≡ nothing
+  no_slot is = none_of (is_open zero) (is_open one) later (by_slot shape 0 zero) (by_slot shape 1 one) is
+    where
+      none_of : (a b c : Bool) (x y : FileState) → (let r : Option ℕ = if a && (not b || c) then Some 0 else if b then Some 1 else None in r) ≡ None → (if a && (not b || c) then x else if b then y else nothing) ≡ nothing
+      none_of true true true x y is = cc
+      none_of true true false x y is = cc
+      none_of true false c x y is = cc
+      none_of false true c x y is = cc
+      none_of false false c x y is = refl
+
+  pub slot_zero : newest zero one ≡ Some 0 → by_slots shape zero one ≡ by_slot shape 0 zero
+  slot_zero is = zero_of (is_open zero) (is_open one) later (by_slot shape 0 zero) (by_slot shape 1 one) is
+    where
+      zero_of : (a b c : Bool) (x y : FileState) → (let r : Option ℕ = if a && (not b || c) then Some 0 else if b then Some 1 else None in r) ≡ Some 0 → (if a && (not b || c) then x else if b then y else nothing) ≡ x
+      zero_of true true true x y is = refl
+      zero_of true true false x y is = cc
+      zero_of true false c x y is = refl
+      zero_of false true c x y is = cc
+      zero_of false false c x y is = cc
+
+  pub slot_one : (k : ℕ) → newest zero one ≡ Some k → k ≢ 0 → by_slots shape zero one ≡ by_slot shape 1 one
+  slot_one k is not_zero = one_of (is_open zero) (is_open one) later (by_slot shape 0 zero) (by_slot shape 1 one) k is not_zero
+    where
+      same_some : (m n : ℕ) → (let r : Option ℕ = Some m in r) ≡ Some n → m ≡ n
+      same_some m n e = cc
+
+      one_of : (a b c : Bool) (x y : FileState) (k : ℕ) → (let r : Option ℕ = if a && (not b || c) then Some 0 else if b then Some 1 else None in r) ≡ Some k → k ≢ 0 → (if a && (not b || c) then x else if b then y else nothing) ≡ y
+      one_of true true true x y k is not_zero = absurd (not_zero (sym (same_some 0 k is)))
+      one_of true true false x y k is not_zero = refl
+      one_of true false c x y k is not_zero = absurd (not_zero (sym (same_some 0 k is)))
+      one_of false true c x y k is not_zero = refl
+      one_of false false c x y k is not_zero = cc
+
+-- ---- the file
+
+module _ (shape : Starts) (digest file : List ℕ) where
+  pub by_front : (state : FileState) → by_header shape digest (length file) (take 64 file) ≡ Some state → file_state shape digest file ≡ state
+  by_front state is = ap (λ (o : Option FileState). or_by_slots o (by_slots shape (slot shape 0 file) (slot shape 1 file))) is
+
+  pub by_both : (state : FileState) → by_header shape digest (length file) (take 64 file) ≡ None → by_slots shape (slot shape 0 file) (slot shape 1 file) ≡ state → file_state shape digest file ≡ state
+  by_both state none is = ap (λ (o : Option FileState). or_by_slots o (by_slots shape (slot shape 0 file) (slot shape 1 file))) none ∙ is
+
+  pub last_kept : (snapshot : SnapshotParts) → by_header shape digest (length file) (take 64 file) ≡ None → by_slots shape (slot shape 0 file) (slot shape 1 file) ≡ last snapshot → IsKept shape digest snapshot.epoch file
+  last_kept snapshot none is = record { whole = none; kept = subst (HasEpoch snapshot.epoch) (sym is) refl }
+
+-- ---- what the steps hand on
+
+slot_error : (state : FileState) (e : StoreFault) → SlotSays state (Err e) → SlotsSay state (Err e)
+slot_error state Disk says = absurd says
+slot_error state (Other kept here) says = absurd says
+slot_error state (Damaged place) says = says
+slot_error state NoMemory says = tt
+
+slots_handed : (state : FileState) (r : Result (Option SnapshotParts) StoreFault) (e : StoreFault) → IsErrAnd r (λ x. x ≡ e) → SlotsSay state (Err e) → SlotsSay state r
+slots_handed state (Ok x) e is says = absurd is
+slots_handed state (Err x) e is says = subst (λ f. SlotsSay state (Err f)) (sym is) says
+
+-- ---- the slots of some bytes
+
+module _ (shape : Starts) (bytes behind : List ℕ) (size : ℕ) (size_is : size ≡ slot_length shape) (behind_is : behind ≡ drop 64 bytes) where
+  pub first_slot : (zero : List ℕ) → zero ≡ take size behind → zero ≡ slot shape 0 bytes
+  first_slot zero is =
+      let place : 64 ≡ slot_place shape 0 = omega arith in
+      is ∙ ap (λ (n : ℕ). take n behind) size_is ∙ ap (take (slot_length shape)) behind_is ∙ ap (λ (n : ℕ). take (slot_length shape) (drop n bytes)) place
+
+  pub second_slot : (rest one : List ℕ) → rest ≡ drop size behind → one ≡ take size rest → one ≡ slot shape 1 bytes
+  second_slot rest one rest_is is =
+      let place : 64 + slot_length shape ≡ slot_place shape 1 = omega arith in
+      is ∙ ap (λ (n : ℕ). take n rest) size_is
+      ∙ ap (take (slot_length shape)) (rest_is ∙ ap (λ (n : ℕ). drop n behind) size_is ∙ ap (drop (slot_length shape)) behind_is ∙ drop-drop (slot_length shape) 64 bytes ∙ ap (λ (n : ℕ). drop n bytes) place)
+
+-- what the slots that were read stand for
+module _ (shape : Starts) (bytes zero one : List ℕ) (zero_is : zero ≡ slot shape 0 bytes) (one_is : one ≡ slot shape 1 bytes) where
+  both_are : by_slots shape (slot shape 0 bytes) (slot shape 1 bytes) ≡ by_slots shape zero one
+  both_are = ap (λ (l : List ℕ). by_slots shape l (slot shape 1 bytes)) (sym zero_is) ∙ ap (by_slots shape zero) (sym one_is)
+
+  pub none_at : newest zero one ≡ None → by_slots shape (slot shape 0 bytes) (slot shape 1 bytes) ≡ nothing
+  none_at is = both_are ∙ no_slot shape zero one is
+
+  pub zero_at : (k : ℕ) → newest zero one ≡ Some k → k ≡ 0 → by_slot shape 0 zero ≡ by_slots shape (slot shape 0 bytes) (slot shape 1 bytes)
+  zero_at k is k_is = sym (both_are ∙ slot_zero shape zero one (is ∙ ap found k_is))
+    where
+      found : ℕ → Option ℕ
+      found n = Some n
+
+  pub one_at : (k : ℕ) → newest zero one ≡ Some k → k ≢ 0 → by_slot shape 1 one ≡ by_slots shape (slot shape 0 bytes) (slot shape 1 bytes)
+  one_at k is not_zero = sym (both_are ∙ slot_one shape zero one k is not_zero)
+
+pub error_at : (a b : FileState) (r : Result (Option SnapshotParts) StoreFault) (e : StoreFault) → a ≡ b → IsErrAnd r (λ x. x ≡ e) → SlotSays a (Err e) → SlotsSay b r
+error_at a b r e same is says = slots_handed b r e is (slot_error b e (subst (λ s. SlotSays s (Err e)) same says))

@@ -1,0 +1,76 @@
+use Rattle.std.proofs.Common.{◌+◌, ◌%◌, length, refl, sym, ◌∙◌, ap}
+use Rattle.token_cut.specs.Parts.{SnapshotParts}
+use Rattle.snapshot_file.specs.Bodies.{body_bytes}
+use Rattle.snapshot_store.specs.State.{slot_place, KeepsOrTakes}
+use Rattle.snapshot_store.proofs.Moments.{leaves_then, leaves_only}
+use Rattle.snapshot_store.proofs.Put.{put_steps, gate_place}
+use Rattle.snapshot_store.proofs.store.Store.put.Goals as goal
+
+pub returns-in_err-close_gate-clause-any_moment : goal.returns-in_err-close_gate-clause-any_moment
+returns-in_err-close_gate-clause-any_moment g c = λ honest file rest kept.
+    let P = KeepsOrTakes c.args.shape.now c.args.self.now.digest c.args.snapshot.now file in
+    let at_is = gate_place c.args.shape.now c.snapshot.inside.epoch c.args.snapshot.now.epoch c.slot_len.result (ap (λ (s : SnapshotParts). s.epoch) c.snapshot.view_is) c.slot_len.ensures.length in
+    let long = sym (ap length c.in_ok-body.ensures.bytes) ∙ c.in_ok-body.ensures.length in
+    let reads = c.in_ok-body.ensures.reads_back (c.args.snapshot.now.epoch % 2) (slot_place c.args.shape.now (c.args.snapshot.now.epoch % 2) + 1) c.requires.form in
+    let steps = put_steps c.args.shape.now c.args.self.now.digest c.args.snapshot.now c.args.self.now.last file _ (body_bytes c.args.snapshot.now) c.requires.next at_is refl long reads kept in
+    let first = leaves_only g.D.Disk.content g.D.Disk.images g.D.Disk.moment _ _ _ P (c.close_gate.ensures.crash honest file rest) steps.closing in
+    first
+
+pub returns-in_err-write_synced-clause-any_moment : goal.returns-in_err-write_synced-clause-any_moment
+returns-in_err-write_synced-clause-any_moment g c = λ honest file rest kept.
+    let P = KeepsOrTakes c.args.shape.now c.args.self.now.digest c.args.snapshot.now file in
+    let at_is = gate_place c.args.shape.now c.snapshot.inside.epoch c.args.snapshot.now.epoch c.slot_len.result (ap (λ (s : SnapshotParts). s.epoch) c.snapshot.view_is) c.slot_len.ensures.length in
+    let long = sym (ap length c.in_ok-body.ensures.bytes) ∙ c.in_ok-body.ensures.length in
+    let reads = c.in_ok-body.ensures.reads_back (c.args.snapshot.now.epoch % 2) (slot_place c.args.shape.now (c.args.snapshot.now.epoch % 2) + 1) c.requires.form in
+    let steps = put_steps c.args.shape.now c.args.self.now.digest c.args.snapshot.now c.args.self.now.last file _ c.deref.result.now c.requires.next at_is (c.deref.ensures.value ∙ c.in_ok-body.ensures.bytes) long reads kept in
+    let first = leaves_only g.D.Disk.content g.D.Disk.images g.D.Disk.moment _ _ _ P (c.close_gate.ensures.crash honest file rest) steps.closing in
+    let honest-2 = c.close_gate.ensures.honest ∙ honest in
+    let rest-2 = c.in_ok-close_gate.ensures.done honest file rest in
+    let second = leaves_then g.D.Disk.content g.D.Disk.images g.D.Disk.moment _ _ _ P _ P first (c.write_synced.ensures.crash honest-2 _ rest-2) (λ f p. p) steps.behind in
+    second
+
+pub returns-in_err-write_synced-2-clause-any_moment : goal.returns-in_err-write_synced-2-clause-any_moment
+returns-in_err-write_synced-2-clause-any_moment g c = λ honest file rest kept.
+    let P = KeepsOrTakes c.args.shape.now c.args.self.now.digest c.args.snapshot.now file in
+    let at_is = gate_place c.args.shape.now c.snapshot.inside.epoch c.args.snapshot.now.epoch c.slot_len.result (ap (λ (s : SnapshotParts). s.epoch) c.snapshot.view_is) c.slot_len.ensures.length in
+    let long = sym (ap length c.in_ok-body.ensures.bytes) ∙ c.in_ok-body.ensures.length in
+    let reads = c.in_ok-body.ensures.reads_back (c.args.snapshot.now.epoch % 2) (slot_place c.args.shape.now (c.args.snapshot.now.epoch % 2) + 1) c.requires.form in
+    let steps = put_steps c.args.shape.now c.args.self.now.digest c.args.snapshot.now c.args.self.now.last file _ c.deref.result.now c.requires.next at_is (c.deref.ensures.value ∙ c.in_ok-body.ensures.bytes) long reads kept in
+    let first = leaves_only g.D.Disk.content g.D.Disk.images g.D.Disk.moment _ _ _ P (c.close_gate.ensures.crash honest file rest) steps.closing in
+    let honest-2 = c.close_gate.ensures.honest ∙ honest in
+    let rest-2 = c.in_ok-close_gate.ensures.done honest file rest in
+    let second = leaves_then g.D.Disk.content g.D.Disk.images g.D.Disk.moment _ _ _ P _ P first (c.write_synced.ensures.crash honest-2 _ rest-2) (λ f p. p) steps.behind in
+    let honest-3 = c.write_synced.ensures.honest ∙ honest-2 in
+    let rest-3 = c.in_ok-write_synced.ensures.done honest-2 _ rest-2 in
+    let third = leaves_then g.D.Disk.content g.D.Disk.images g.D.Disk.moment _ _ _ P _ P second (c.write_synced-2.ensures.crash honest-3 _ rest-3) (λ f p. p) steps.opening in
+    third
+
+pub returns-clause-any_moment : goal.returns-clause-any_moment
+returns-clause-any_moment g c = λ honest file rest kept.
+    let P = KeepsOrTakes c.args.shape.now c.args.self.now.digest c.args.snapshot.now file in
+    let at_is = gate_place c.args.shape.now c.snapshot.inside.epoch c.args.snapshot.now.epoch c.slot_len.result (ap (λ (s : SnapshotParts). s.epoch) c.snapshot.view_is) c.slot_len.ensures.length in
+    let long = sym (ap length c.in_ok-body.ensures.bytes) ∙ c.in_ok-body.ensures.length in
+    let reads = c.in_ok-body.ensures.reads_back (c.args.snapshot.now.epoch % 2) (slot_place c.args.shape.now (c.args.snapshot.now.epoch % 2) + 1) c.requires.form in
+    let steps = put_steps c.args.shape.now c.args.self.now.digest c.args.snapshot.now c.args.self.now.last file _ c.deref.result.now c.requires.next at_is (c.deref.ensures.value ∙ c.in_ok-body.ensures.bytes) long reads kept in
+    let first = leaves_only g.D.Disk.content g.D.Disk.images g.D.Disk.moment _ _ _ P (c.close_gate.ensures.crash honest file rest) steps.closing in
+    let honest-2 = c.close_gate.ensures.honest ∙ honest in
+    let rest-2 = c.in_ok-close_gate.ensures.done honest file rest in
+    let second = leaves_then g.D.Disk.content g.D.Disk.images g.D.Disk.moment _ _ _ P _ P first (c.write_synced.ensures.crash honest-2 _ rest-2) (λ f p. p) steps.behind in
+    let honest-3 = c.write_synced.ensures.honest ∙ honest-2 in
+    let rest-3 = c.in_ok-write_synced.ensures.done honest-2 _ rest-2 in
+    let third = leaves_then g.D.Disk.content g.D.Disk.images g.D.Disk.moment _ _ _ P _ P second (c.write_synced-2.ensures.crash honest-3 _ rest-3) (λ f p. p) steps.opening in
+    third
+
+pub returns-clause-kept : goal.returns-clause-kept
+returns-clause-kept g c = λ honest file rest kept.
+    let P = KeepsOrTakes c.args.shape.now c.args.self.now.digest c.args.snapshot.now file in
+    let at_is = gate_place c.args.shape.now c.snapshot.inside.epoch c.args.snapshot.now.epoch c.slot_len.result (ap (λ (s : SnapshotParts). s.epoch) c.snapshot.view_is) c.slot_len.ensures.length in
+    let long = sym (ap length c.in_ok-body.ensures.bytes) ∙ c.in_ok-body.ensures.length in
+    let reads = c.in_ok-body.ensures.reads_back (c.args.snapshot.now.epoch % 2) (slot_place c.args.shape.now (c.args.snapshot.now.epoch % 2) + 1) c.requires.form in
+    let steps = put_steps c.args.shape.now c.args.self.now.digest c.args.snapshot.now c.args.self.now.last file _ c.deref.result.now c.requires.next at_is (c.deref.ensures.value ∙ c.in_ok-body.ensures.bytes) long reads kept in
+    let honest-2 = c.close_gate.ensures.honest ∙ honest in
+    let rest-2 = c.in_ok-close_gate.ensures.done honest file rest in
+    let honest-3 = c.write_synced.ensures.honest ∙ honest-2 in
+    let rest-3 = c.in_ok-write_synced.ensures.done honest-2 _ rest-2 in
+    let rest-4 = c.in_ok-write_synced-2.ensures.done honest-3 _ rest-3 in
+    (_, rest-4, steps.done)

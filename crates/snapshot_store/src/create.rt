@@ -1,0 +1,74 @@
+// The steps that make a file of a store.
+ghost use Rattle.std.specs.Prelude.{◌≡◌, ◌+◌, ◌^◌, ◌<◌, ◌≤◌, ℕ, List, length, IsTrue, IfOk, OnOk, OnErr};
+ghost use Rattle.grape_port.specs.Ports.{Rose};
+ghost use Rattle.grape_disk.specs.Images.{AtRest, Leaves};
+ghost use Rattle.snapshot_store.specs.State.{front_bytes};
+ghost use Rattle.snapshot_store.specs.Steps.{HasShutGate, ClosesFile, KeepsGate, blank};
+
+use crate::steps::{close_gate, write_synced};
+use byteorder::{BigEndian, ByteOrder};
+use grape_disk::{Disk, Failed};
+use grape_port::NoMemory;
+use std::alloc::Global;
+
+// what names a state file, behind its gate
+const NAME_BYTES: [u8; 7] = [0x52, 0x41, 0x50, 0x45, 0x53, 0x54, 0x31];
+
+/// The header behind the file's gate, and the closed gate of the first slot.
+pub(crate) fn front_of(alloc: Global, size: u64, digest: &[u8; 32]) -> Result<Vec<u8>, NoMemory>
+    ensures bytes { IfOk result (λ front. front.items ≡ front_bytes size digest.now) }
+{
+    let mut number = [0; 8];
+    BigEndian::write_u64(&mut number, size);
+    let mut front = Vec::with_capacity(alloc, 64)?;
+    front.extend_from_slice(&NAME_BYTES)?;
+    front.extend_from_slice(digest)?;
+    front.extend_from_slice(&number)?;
+    front.extend_from_slice(&[0; 16])?;
+    front.extend_from_slice(&[0])?;
+    Ok(front)
+}
+
+/// Closes the file's gate. An empty file gets a closed one.
+pub(crate) fn close_file<D: Disk>(disk: &mut D) -> Result<(), Failed>
+    ensures done { OnOk result (IsTrue (D.honest disk.old) → (file : List ℕ) → AtRest D.content D.images D.moment disk.old file
+        → (new : List ℕ) × AtRest D.content D.images D.moment disk.new new × HasShutGate file new) }
+    ensures crash { IsTrue (D.honest disk.old) → (file : List ℕ) → AtRest D.content D.images D.moment disk.old file
+        → Leaves D.images D.moment disk.old disk.new (ClosesFile file) }
+    ensures cause { OnErr result (Rose (D.faults disk.old) (D.faults disk.new)) }
+    ensures no_fault { OnOk result (D.faults disk.new ≡ D.faults disk.old) }
+    ensures honest { D.honest disk.new ≡ D.honest disk.old }
+{
+    close_gate(disk, 0)?;
+    let size = disk.len()?;
+    if size > 0 {
+        return Ok(());
+    }
+    write_synced(disk, 0, &[0])
+}
+
+/// Writes all of a file but its gate, and syncs it.
+pub(crate) fn write_blank<D: Disk>(
+    disk: &mut D,
+    front: &[u8],
+    gate: u64,
+    end: u64,
+) -> Result<(), Failed>
+    requires some { 0 < length front.now }
+    requires room { end < 2 ^ 62 }
+    requires gate { 1 ≤ gate }
+    requires order { gate ≤ end }
+    requires front { length front.now ≤ end }
+    ensures done { OnOk result (IsTrue (D.honest disk.old) → (file : List ℕ) → AtRest D.content D.images D.moment disk.old file
+        → AtRest D.content D.images D.moment disk.new (blank front.now gate end file)) }
+    ensures crash { IsTrue (D.honest disk.old) → (file : List ℕ) → AtRest D.content D.images D.moment disk.old file → 0 < length file
+        → Leaves D.images D.moment disk.old disk.new (KeepsGate file (end + 1)) }
+    ensures cause { OnErr result (Rose (D.faults disk.old) (D.faults disk.new)) }
+    ensures no_fault { OnOk result (D.faults disk.new ≡ D.faults disk.old) }
+    ensures honest { D.honest disk.new ≡ D.honest disk.old }
+{
+    disk.write_at(1, front)?;
+    disk.write_at(gate, &[0])?;
+    disk.write_at(end, &[0])?;
+    disk.sync()
+}

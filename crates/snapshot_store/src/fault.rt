@@ -1,0 +1,33 @@
+ghost use Rattle.std.specs.Prelude.{◌≡◌};
+ghost use Rattle.snapshot_store.specs.declared.fault.StoreFault.TheVariants.{Disk as DiskFault, NoMemory as NoMemoryFault};
+
+use grape_port::{Failed, NoMemory};
+
+/// Why a store could not be opened, or a snapshot not be kept.
+#[derive(Clone, Copy, Debug, PartialEq, Eq)]
+pub enum StoreFault {
+    /// A call of the disk failed, and its count of faults rose.
+    Disk,
+    /// The file is another input's: the digest that it keeps, and the one that was asked for.
+    Other { kept: [u8; 32], here: [u8; 32] },
+    /// The bytes from that place of the file on are no field that may stand there.
+    Damaged { place: u64 },
+    /// Memory ran out.
+    NoMemory,
+}
+
+impl From<Failed> for StoreFault {
+    ghost from_gives = { λ _ fault. fault ≡ DiskFault };
+
+    fn from(_failed: Failed) -> StoreFault {
+        StoreFault::Disk
+    }
+}
+
+impl From<NoMemory> for StoreFault {
+    ghost from_gives = { λ _ fault. fault ≡ NoMemoryFault };
+
+    fn from(_fault: NoMemory) -> StoreFault {
+        StoreFault::NoMemory
+    }
+}

@@ -1,0 +1,147 @@
+// A snapshot goes to the slot of its epoch's parity, whose gate stands closed on the disk before its body is written, and is
+// opened by a write of its own once the body is on the disk.
+ghost use Rattle.std.specs.Prelude.{◌≡◌, ◌⊎◌, ◌+◌, ◌%◌, ◌<◌, ℕ, List, length, IsErrOf, IsTrue, IfOk, IfErr, OnOk, OnErr, Ok, Some};
+ghost use Rattle.grape_port.specs.Ports.{Rose};
+ghost use Rattle.grape_disk.specs.Images.{AtRest, Leaves};
+ghost use Rattle.token_cut.specs.Form.{IsInForm};
+ghost use Rattle.token_cut.specs.Shapes.{IsShape};
+ghost use Rattle.snapshot_file.specs.Bodies.{body_bytes};
+ghost use Rattle.snapshot_file.specs.Lengths.{body_length};
+ghost use Rattle.snapshot_file.specs.Reading.{decoded};
+ghost use Rattle.snapshot_store.specs.State.{file_state, StaysNothing, IsKept, KeepsOrTakes, Takes};
+ghost use Rattle.snapshot_store.specs.State.FileState.{nothing};
+ghost use Rattle.snapshot_store.specs.declared.fault.StoreFault.TheVariants.{Disk as DiskFault, NoMemory as NoMemoryFault};
+
+use crate::create::{close_file, front_of, write_blank};
+use crate::fault::StoreFault;
+use crate::steps::{OPEN, close_gate, write_synced};
+use grape_disk::Disk;
+use grape_port::NoMemory;
+use snapshot_file::{body_len, encode, slot_len};
+use std::alloc::Global;
+use std::marker::Model;
+use token_cut::{Shape, Snapshot};
+
+/// A file that snapshots are kept in. Contracts see the digest that it was made with, and the last
+/// kept epoch.
+#[derive(Drop)]
+pub struct Store {
+    pub(crate) alloc: Global,
+    pub(crate) digest: [u8; 32],
+    pub(crate) last: u64,
+}
+
+impl Model for Store {
+    ghost use Rattle.snapshot_store.specs.Stores.{StoreValue};
+
+    ghost Value = { StoreValue };
+
+    ghost view = { λ s. record { digest = s.digest; last = s.last } };
+}
+
+impl Store {
+    /// The last kept epoch, or 0.
+    pub fn last(&self) -> u64
+        ensures { result ≡ self.now.last }
+    {
+        self.last
+    }
+
+    /// Makes the file of a store that has kept nothing, in the place of one that opens as nothing.
+    ///
+    /// On an honest disk with nothing pending, a crash at any moment of the call leaves a file that
+    /// opens as nothing, and no longer one than it has to be. After `StoreFault::Disk` the file is
+    /// one of those.
+    pub fn create<D: Disk>(
+        alloc: Global,
+        disk: &mut D,
+        shape: &Shape,
+        digest: &[u8; 32],
+    ) -> Result<Store, StoreFault>
+        requires shape { IsShape shape.now }
+        requires empty { (file : List ℕ) → D.content disk.old ≡ Some file → file_state shape.now digest.now file ≡ nothing }
+
+        ensures created { OnOk result (IsTrue (D.honest disk.old) → (file : List ℕ) → AtRest D.content D.images D.moment disk.old file
+            → (new : List ℕ) × AtRest D.content D.images D.moment disk.new new × (file_state shape.now digest.now new ≡ nothing) × IsKept shape.now digest.now 0 new) }
+
+        // A crash at any moment of the call leaves nothing.
+        ensures any_moment { IsTrue (D.honest disk.old) → (file : List ℕ) → AtRest D.content D.images D.moment disk.old file
+            → Leaves D.images D.moment disk.old disk.new (StaysNothing shape.now digest.now file) }
+
+        ensures store { IfOk result (λ store. (store.digest ≡ digest.now) × (store.last ≡ 0)) }
+
+        // It doesn't give up by itself.
+        ensures disk_fault { IsErrOf result DiskFault → Rose (D.faults disk.old) (D.faults disk.new) }
+        ensures no_fault { OnOk result (D.faults disk.new ≡ D.faults disk.old) }
+        ensures no_memory { IsErrOf result NoMemoryFault → disk.new ≡ disk.old }
+        ensures no_other { IfErr result (λ e. (e ≡ DiskFault) ⊎ (e ≡ NoMemoryFault)) }
+
+        ensures honest { D.honest disk.new ≡ D.honest disk.old }
+    {
+        let size = slot_len(shape);
+        let front = front_of(alloc, size, digest)?;
+        close_file(disk)?;
+        write_blank(disk, &front, 64 + size, 63 + 2 * size)?;
+        write_synced(disk, 0, &[OPEN])?;
+        Ok(Store {
+            alloc,
+            digest: *digest,
+            last: 0,
+        })
+    }
+
+    /// Keeps a snapshot. At `Ok` it is kept: from then on each crash leaves a file that opens as it.
+    ///
+    /// On an honest disk with nothing pending, a crash at any moment of the call leaves a file that
+    /// opens as before or as the snapshot. After `StoreFault::Disk` the file is one of those: open
+    /// it again. After `StoreFault::NoMemory` the disk is untouched.
+    pub fn put<D: Disk>(
+        &mut self,
+        disk: &mut D,
+        shape: &Shape,
+        snapshot: &Snapshot,
+    ) -> Result<(), StoreFault>
+        requires shape { IsShape shape.now }
+        requires next { snapshot.now.epoch ≡ self.old.last + 1 }
+        requires form { IsInForm shape.now (snapshot.now.epoch % 2) snapshot.now }
+
+        ensures kept { OnOk result (IsTrue (D.honest disk.old) → (file : List ℕ) → AtRest D.content D.images D.moment disk.old file → IsKept shape.now self.old.digest self.old.last file
+            → (new : List ℕ) × AtRest D.content D.images D.moment disk.new new × Takes shape.now self.old.digest snapshot.now new) }
+
+        // A crash at any moment of the call leaves the state from before it, or the snapshot.
+        ensures any_moment { IsTrue (D.honest disk.old) → (file : List ℕ) → AtRest D.content D.images D.moment disk.old file → IsKept shape.now self.old.digest self.old.last file
+            → Leaves D.images D.moment disk.old disk.new (KeepsOrTakes shape.now self.old.digest snapshot.now file) }
+
+        ensures digest { self.new.digest ≡ self.old.digest }
+        ensures last { OnOk result (self.new.last ≡ snapshot.now.epoch) }
+        ensures last_err { OnErr result (self.new.last ≡ self.old.last) }
+
+        // It doesn't give up by itself.
+        ensures disk_fault { IsErrOf result DiskFault → Rose (D.faults disk.old) (D.faults disk.new) }
+        ensures no_fault { OnOk result (D.faults disk.new ≡ D.faults disk.old) }
+        ensures no_memory { IsErrOf result NoMemoryFault → disk.new ≡ disk.old }
+        ensures no_other { IfErr result (λ e. (e ≡ DiskFault) ⊎ (e ≡ NoMemoryFault)) }
+
+        ensures honest { D.honest disk.new ≡ D.honest disk.old }
+    {
+        let body = body_of(self.alloc, shape, snapshot)?;
+        let gate = 64 + snapshot.epoch % 2 * slot_len(shape);
+        close_gate(disk, gate)?;
+        write_synced(disk, gate + 1, &body)?;
+        write_synced(disk, gate, &[OPEN])?;
+        self.last = snapshot.epoch;
+        Ok(())
+    }
+}
+
+fn body_of(alloc: Global, shape: &Shape, snapshot: &Snapshot) -> Result<Vec<u8>, NoMemory>
+    requires shape { IsShape shape.now }
+    requires form { (slot : ℕ) × IsInForm shape.now slot snapshot.now }
+    ensures bytes { IfOk result (λ body. body.items ≡ body_bytes snapshot.now) }
+    ensures length { IfOk result (λ body. length body.items ≡ body_length shape.now) }
+    ensures reads_back { IfOk result (λ _. (slot at : ℕ) → IsInForm shape.now slot snapshot.now → decoded shape.now slot at (body_bytes snapshot.now) ≡ Ok snapshot.now) }
+{
+    let mut body = Vec::with_capacity(alloc, body_len(shape) as usize)?;
+    encode(snapshot, &mut body);
+    Ok(body)
+}
