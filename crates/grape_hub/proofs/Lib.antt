@@ -19,3 +19,4 @@ pub mod Gives
 pub mod Nexts
 pub mod Finished
 pub mod Calm
+pub mod Lanes

@@ -1,8 +1,11 @@
 -- The laws of hubs, as statements.
-use Rattle.std.specs.Prelude.{◌≡◌, ℕ, ◌<◌, ◌≤◌, ◌+◌, ◌*◌, false, IsTrue, None, [], length, slice_index}
+use Rattle.std.specs.Prelude.{◌≡◌, ℕ, Bool, ◌<◌, ◌≤◌, ◌+◌, ◌*◌, false, IsTrue, None, [], length, slice_index}
 use Rattle.graph_core.specs.Equations.{Assignment, IsGreatest}
 use Rattle.graph_core.specs.Queries.{equations_of}
-use Rattle.graph_core.specs.Fragments.{IsOwnedAt, pieces_of}
+use Rattle.graph_core.specs.Fragments.{IsOwnedAt, pieces_of, fragment_of}
+use Rattle.pie_core.specs.Locals.{LocalValues}
+use Rattle.pie_core.specs.Solutions.{lowered, local_solution}
+use Rattle.pie_core.specs.Evaluations.{MayEvaluate}
 use Rattle.grape_event.specs.declared.event.Event.{Event}
 use Rattle.grape_event.specs.declared.event.Event.TheVariants.{Take, Give}
 use Rattle.grape_event.specs.Events.{is_take}
@@ -11,13 +14,26 @@ use Rattle.base_machine.specs.Fitness.{is_quiet}
 use Rattle.base_machine.specs.Bounds.{bound_of}
 use Rattle.legal_journal.specs.Legal.{has_work_out}
 use Rattle.grape_hub.specs.HubValues.{HubValues}
-use Rattle.grape_hub.specs.Calls.{Appended}
+use Rattle.grape_hub.specs.declared.work.Work.{Work}
+use Rattle.grape_hub.specs.Calls.{Appended, IsWork, IsReady, MayGive}
 use Rattle.grape_hub.specs.States.{machine, state_of, workers_of, IsHub}
 use Rattle.grape_hub.specs.Choice.{choice_of}
 
 -- nobody is out
 abbrev pub IsCalm : HubValues → Type 0
 IsCalm h = (i : ℕ) → i < length (workers_of h) → is_running (worker_at (workers_of h) i) ≡ false
+
+-- A Work that a lane has out and that is ready may be evaluated, and then given back.
+abbrev pub WorksMayBeEvaluated : Type 0
+WorksMayBeEvaluated =
+    (h : HubValues) (lane : ℕ) (fresh : Bool) (work : Work) → IsHub h → IsWork h lane fresh work → IsReady h work →
+    MayEvaluate (equations_of h.job) h.job (fragment_of h.job work.worker) work.fresh work.local h.counters work.hand
+
+abbrev pub EvaluatedMayBeGiven : Type 0
+EvaluatedMayBeGiven =
+    (h : HubValues) (lane : ℕ) (fresh : Bool) (work : Work) (local : LocalValues) → IsHub h → IsWork h lane fresh work →
+    local.values ≡ local_solution (equations_of h.job) (fragment_of h.job work.worker).owned (fragment_of h.job work.worker).mirrors (lowered (equations_of h.job) (fragment_of h.job work.worker).owned work.local.values work.hand.values) →
+    local.before ≡ work.local.before → length local.counters ≡ length work.local.counters → MayGive h lane (record work { local = local })
 
 -- Where nobody is out every lane is free, and a lane's turn, a Take with its Give or another event, leaves it so.
 abbrev pub CalmIsFree : Type 0

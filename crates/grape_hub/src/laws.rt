@@ -1,4 +1,10 @@
-ghost use Rattle.grape_hub.specs.Theorems.{CalmIsFree, CalmAtBeginning, CalmAfterTurn, CalmAfterOther, IdleIsQuiet, QuietIsTheAnswer, JournalIsBounded};
+ghost use Rattle.grape_hub.specs.Theorems.{WorksMayBeEvaluated, EvaluatedMayBeGiven, CalmIsFree, CalmAtBeginning, CalmAfterTurn, CalmAfterOther, IdleIsQuiet, QuietIsTheAnswer, JournalIsBounded};
+
+/// A Work that is ready may be evaluated, and what was evaluated may be given back.
+pub fn works_go_round()
+    ensures evaluated { WorksMayBeEvaluated }
+    ensures given { EvaluatedMayBeGiven }
+{}
 
 /// Where nobody is out every lane is free, and one lane's turns leave it so.
 pub fn turns_are_calm()

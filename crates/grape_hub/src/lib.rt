@@ -14,5 +14,7 @@ mod posting;
 mod work;
 
 pub use hub::Hub;
-pub use laws::{hubs_are_bounded, idle_is_quiet, quiet_is_the_answer, turns_are_calm};
+pub use laws::{
+    hubs_are_bounded, idle_is_quiet, quiet_is_the_answer, turns_are_calm, works_go_round,
+};
 pub use work::{Next, Work};

@@ -30,7 +30,7 @@ const MAX_BYTES: u64 = 268_435_456;
 pub fn read_job<S: Source>(alloc: Global, input: &mut S) -> Result<Job, InputFault>
     ensures read { ReadsJob (S.left input.old) (S.left input.new) result }
     ensures job { IfOk result IsJob }
-    ensures built { IfOk result (λ job. IsBuilt job.query) }
+    ensures built { IfOk result IsBuilt }
     ensures fault { result ≡ Err InputFault.Failed → Rose (S.faults input.old) (S.faults input.new) }
     ensures faults_stay { S.faults input.old ≤ S.faults input.new }
 {

@@ -1,5 +1,5 @@
 -- Which texts are an input, and which job each of them is.
-use Rattle.std.specs.Prelude.{ℕ, ◌+◌, ◌==◌, Bool, true, false, ◌||◌, nat_lt, if◌then◌else◌, List, [], ◌∷◌, ◌++◌, length, map, filter_map, count_by, Option, Some, None, unwrap_or, option_map, Result, Ok, Err, ⊤}
+use Rattle.std.specs.Prelude.{◌≡◌, ℕ, ◌+◌, ◌==◌, Bool, true, false, ◌||◌, nat_lt, if◌then◌else◌, List, [], ◌∷◌, ◌++◌, length, map, filter_map, count_by, Option, Some, None, unwrap_or, option_map, Result, Ok, Err, ⊤}
 use Rattle.std.specs.List.{list_any}
 use Rattle.std.specs.Option.{option_or}
 use Rattle.std.specs.Result.{result_ok}
@@ -84,11 +84,20 @@ first_bad cause before (line ∷ lines) =
     option_or (option_map (bad (length before + 1)) (cause before line)) (first_bad cause (before ++ line ∷ []) lines)
 
 -- the queries whose lines are built: all but simulations
-abbrev pub IsBuilt : Query → Type 0
-IsBuilt (query.Dist source) = ⊤
-IsBuilt query.Label = ⊤
-IsBuilt (query.Reach source) = ⊤
-IsBuilt (query.Sim pattern) = ⊥
+abbrev pub IsAsked : Query → Type 0
+IsAsked (query.Dist source) = ⊤
+IsAsked query.Label = ⊤
+IsAsked (query.Reach source) = ⊤
+IsAsked (query.Sim pattern) = ⊥
+
+-- the settings whose lines are not built stand at one value
+abbrev pub AreBuilt : Settings → Type 0
+AreBuilt settings = (settings.policy ≡ policy.Ap) × (settings.snapshot ≡ 0)
+
+-- what a job is whose lines are built
+pub record IsBuilt (job : Job) : Type 0 where
+  pub query : IsAsked job.query
+  pub settings : AreBuilt job.settings
 
 -- what the first statement of a kind says
 abbrev pub first_of : {X : Type 0} → (Statement → Option X) → List Statement → Option X

@@ -1,7 +1,7 @@
 ghost use Rattle.std.specs.Prelude.{◌≡◌, ℕ, ◌+◌, List, [], ◌∷◌, ◌++◌, length, filter_map, Ok, None, Some, IsSome, option_map, OnOk, IfOk, IfErr};
 ghost use Rattle.graph_core.specs.Graphs.{IsJob, MakeGraph, graph_of};
 ghost use Rattle.graph_text.specs.declared.statement.Statement.{Statement as Said};
-ghost use Rattle.graph_text.specs.Input.{bad, cause_among, statements_of, first_bad, cause_of, job_of_lines, vertices_of, settings_of, query_of, source_of, missing_for, edge_in, IsBuilt};
+ghost use Rattle.graph_text.specs.Input.{bad, cause_among, statements_of, first_bad, cause_of, job_of_lines, vertices_of, settings_of, query_of, source_of, missing_for, edge_in, AreBuilt, IsBuilt};
 ghost use Rattle.graph_text.specs.ReaderState.{gathered_state};
 ghost use Rattle.graph_text.specs.Gathering.{Holds};
 ghost use Rattle.graph_text.specs.Reader.{Answers, Gives};
@@ -111,7 +111,7 @@ impl Gathered {
         requires { (lines : List (List ℕ)) × Holds (gathered_state self) (statements_of lines) × (first_bad cause_of [] lines ≡ None) }
         ensures answer { (lines : List (List ℕ)) → Holds (gathered_state self) (statements_of lines) → first_bad cause_of [] lines ≡ None → line ≡ length lines + 1 → Gives result (job_of_lines lines None) }
         ensures job { IfOk result IsJob }
-        ensures built { IfOk result (λ job. IsBuilt job.query) }
+        ensures built { IfOk result IsBuilt }
     {
         let Some(question) = self.query else {
             let why = Why::NoQuery;
@@ -144,7 +144,8 @@ impl Gathered {
 
     /// The settings that the lines give, and what holds where a line is missing.
     fn settings(&self) -> Settings
-        ensures { (ss : List Said) → Holds (gathered_state self.now) ss → result ≡ settings_of ss }
+        ensures exact { (ss : List Said) → Holds (gathered_state self.now) ss → result ≡ settings_of ss }
+        ensures built { AreBuilt result }
     {
         Settings {
             fragments: self.fragments.unwrap_or(DEFAULT_FRAGMENTS),

@@ -69,7 +69,7 @@ impl LineReader {
         ensures answer { (text : List ℕ) → HasRead self text → Gives result (input_of text) }
         ensures again { (fault : TextFault) → HasFailed self fault → result ≡ Err fault }
         ensures job { IfOk result IsJob }
-        ensures built { IfOk result (λ job. IsBuilt job.query) }
+        ensures built { IfOk result IsBuilt }
     {
         let LineReader { text, fault } = self;
         match fault {

@@ -91,7 +91,7 @@ impl OpenText {
         requires { (text : List ℕ) × HasText (text_state self) text }
         ensures answer { (text : List ℕ) → HasText (text_state self) text → Gives result (input_of text) }
         ensures job { IfOk result IsJob }
-        ensures built { IfOk result (λ job. IsBuilt job.query) }
+        ensures built { IfOk result IsBuilt }
     {
         let OpenText { mut whole, line } = self;
         whole.take_last(&line)?;

@@ -110,7 +110,7 @@ impl WholeLines {
         requires { (lines : List (List ℕ)) × HasLines (lines_state self) lines }
         ensures answer { (lines : List (List ℕ)) → HasLines (lines_state self) lines → Gives result (job_of_lines lines None) }
         ensures job { IfOk result IsJob }
-        ensures built { IfOk result (λ job. IsBuilt job.query) }
+        ensures built { IfOk result IsBuilt }
     {
         let line = self.count + 1;
         self.gathered.into_job(line)
