@@ -1,46 +1,46 @@
-ghost use Rattle.std.specs.Prelude.{◌≡◌, length, IfOk, slice_index};
-ghost use Rattle.graph_core.specs.Graphs.{count_of, IsJob};
+ghost use Rattle.std.specs.Prelude.{◌≡◌, IfOk};
+ghost use Rattle.graph_core.specs.Graphs.{IsJob};
+ghost use Rattle.graph_core.specs.Fragments.{fragments_of};
 ghost use Rattle.graph_text.specs.Input.{IsBuilt};
-ghost use Rattle.answer_text.specs.AnswerText.{answer_text, rows_of, IsAnswerText};
+ghost use Rattle.answer_text.specs.AnswerText.{answer_text, IsAnswerText};
+ghost use Rattle.answer_text.specs.Assembled.{FitParts};
+ghost use Rattle.grape_run.specs.Engine.{AreGreatest};
 
-use crate::rounds::distances;
-use answer_text::{Answer, AnswerRow, Kind};
+use crate::engine::settle;
+use answer_text::{Answer, assemble};
+use fragment_cut::fragment;
 use grape_port::NoMemory;
-use graph_core::{Graph, Job, Query};
+use graph_core::{Fragment, Job, Query, greatest_is_meaning, greatest_is_there};
+use pie_core::Local;
+use pie_dist::Dist;
+use pie_flood::{Labels, Reach};
 use std::alloc::Global;
 
-/// The answer of a job, evaluated on the whole graph.
+/// The answer of a job, evaluated on its fragments.
 pub(crate) fn answer_of(alloc: Global, job: &Job) -> Result<Answer, NoMemory>
     requires job { IsJob job.now }
-    requires built { IsBuilt job.now.query }
+    requires built { IsBuilt job.now }
     ensures { IfOk result (λ answer. IsAnswerText job.now (answer_text answer.kind answer.rows)) }
 {
-    match &job.query {
-        Query::Dist(source) => {
-            let values = distances(alloc, &job.graph, *source)?;
-            let rows = rows(alloc, &job.graph, &values)?;
-            Ok(Answer {
-                kind: Kind::Dist,
-                rows,
-            })
-        }
-        _ => unreachable!(),
-    }
+    greatest_is_there();
+    greatest_is_meaning();
+    let fragments = fragment(alloc, job)?;
+    let locals = locals_of(alloc, job, &fragments)?;
+    assemble(alloc, job, &fragments, &locals)
 }
 
-/// A row for each vertex, in rising number, with its value.
-fn rows(alloc: Global, graph: &Graph, values: &[u64]) -> Result<Vec<AnswerRow>, NoMemory>
-    requires { length values.now ≡ count_of graph.now }
-    ensures { IfOk result (λ rows. rows.items ≡ rows_of graph.now (slice_index values.now)) }
+/// The values of each fragment when the job's own program has come to rest.
+fn locals_of(alloc: Global, job: &Job, fragments: &[Fragment]) -> Result<Vec<Local>, NoMemory>
+    requires job { IsJob job.now }
+    requires built { IsBuilt job.now }
+    requires fragments { fragments.now ≡ fragments_of job.now }
+    ensures fit { IfOk result (λ locals. FitParts fragments.now locals.items) }
+    ensures greatest { IfOk result (λ locals. AreGreatest job.now locals.items) }
 {
-    let count = graph.count();
-    let mut rows = Vec::with_capacity(alloc, count as usize).map_err(|_| NoMemory)?;
-    for vertex in 0..count {
-        let row = AnswerRow {
-            id: graph.id(vertex),
-            value: values[vertex as usize],
-        };
-        rows.push(row).map_err(|_| NoMemory)?;
+    match &job.query {
+        Query::Dist(_) => settle(alloc, job, fragments, &Dist::new(), Dist::new()),
+        Query::Label => settle(alloc, job, fragments, &Labels::new(), Labels::new()),
+        Query::Reach(_) => settle(alloc, job, fragments, &Reach::new(), Reach::new()),
+        Query::Sim(_) => unreachable!(),
     }
-    Ok(rows)
 }

@@ -6,9 +6,11 @@ ghost use Rattle.base_machine.specs.Fitness.{is_quiet};
 ghost use Rattle.answer_text.specs.Assembled.{FitParts};
 ghost use Rattle.grape_hub.specs.States.{workers_of, IsHub};
 ghost use Rattle.grape_hub.specs.Theorems.{IsCalm};
-ghost use Rattle.grape_run.specs.Engine.{GoesOn, AreGreatest};
+ghost use Rattle.grape_run.specs.Engine.{AreGreatest};
 
-use grape_hub::{Hub, Next, hubs_are_bounded, idle_is_quiet, quiet_is_the_answer, turns_are_calm};
+use grape_hub::{
+    Hub, Next, hubs_are_bounded, idle_is_quiet, quiet_is_the_answer, turns_are_calm, works_go_round,
+};
 use grape_port::NoMemory;
 use graph_core::{Fragment, Job};
 use pie_core::{Local, Pie, evaluate};
@@ -59,10 +61,12 @@ fn take_turn<P: Pie>(
     ensures went { IfOk result (λ went. MatchBool went (length hub.old.journal.events < length hub.new.journal.events) (IsTrue (is_quiet (workers_of hub.new)))) }
 {
     turns_are_calm();
+    works_go_round();
     idle_is_quiet();
     match hub.next(0) {
-        Next::Took(work) => {
-            let work = evaluated(fragments, program, work);
+        Next::Took(mut work) => {
+            let part = &fragments[work.worker as usize];
+            evaluate(program, part, work.fresh, &mut work.local, &work.hand);
             hub.give(0, work);
             Ok(true)
         }

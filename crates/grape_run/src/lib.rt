@@ -1,16 +1,16 @@
 //! One run of the engine, from its words to its status: `grape`.
 //!
-//! A run reads its words, then its input from a source, evaluates the query on the whole graph, and
-//! writes the answer to a sink and a line on what went wrong to another. Proved of `grape` for every
+//! A run reads its words, then its input from a source, evaluates the query on the fragments of the
+//! graph, and writes the answer to a sink and a line on what went wrong to another. Proved of `grape` for every
 //! source and sink: each status says what was read, which fault was counted and what was written,
 //! and the bytes of `Done` are the answer of the job that the input is. Where no port fails, an
 //! input is answered and any other text is refused by its first bad line, or memory ran out.
 #![tactic(auto)]
 
 mod answers;
+mod engine;
 mod input;
 mod notes;
-mod rounds;
 mod run;
 mod status;
 #[cfg(test)]
@@ -18,7 +18,6 @@ mod tests;
 mod words;
 
 pub use input::{InputFault, read_job};
-pub use rounds::distances;
 pub use run::grape;
 pub use status::{Status, code};
 pub use words::{Mode, WordFault, Words, read_words};
