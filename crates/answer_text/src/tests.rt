@@ -1,6 +1,13 @@
-use crate::{Answer, AnswerRow, Kind, write_answer};
+ghost use Rattle.std.specs.Prelude.{◌≡◌, length, IfOk};
+ghost use Rattle.graph_core.specs.Graphs.{IsJob};
+ghost use Rattle.graph_core.specs.Parts.{place_count};
+ghost use Rattle.graph_core.specs.Fragments.{fragment_of};
+ghost use Rattle.answer_text.specs.Worked.{scattered};
+
+use crate::{Answer, AnswerRow, Kind, assemble, write_answer};
 use grape_port::{Failed, MemSink, NoMemory};
-use graph_core::FAR;
+use graph_core::{Cut, FAR, Fragment, FragmentParts, Graph, Job, Policy, Query, Rows, Settings};
+use pie_core::Local;
 use std::alloc::Global;
 use std::test::Fail;
 
@@ -69,5 +76,74 @@ fn a_failed_write_leaves_a_front(rt: HostRuntime) -> Result<(), Fail> {
         assert_eq!(rt; write_answer(&answer, &mut sink), Err(Failed));
         assert_eq!(rt; sink.bytes(), front.as_bytes());
     }
+    Ok(())
+}
+
+/// Vertices 1, 2 and 3 without edges, in two fragments by hash.
+fn scattered(alloc: Global) -> Result<Job, NoMemory>
+    ensures same { IfOk result (λ job. job ≡ scattered) }
+    ensures job { IfOk result IsJob }
+{
+    let settings = Settings {
+        fragments: 2,
+        lanes: 1,
+        cut: Cut::Hash,
+        policy: Policy::Ap,
+        snapshot: 0,
+    };
+    Ok(Job {
+        graph: Graph::build(alloc, &[(1, 0), (2, 0), (3, 0)], &[])?,
+        query: Query::Label,
+        settings,
+    })
+}
+
+/// The fragment with vertex 2.
+fn first_part(alloc: Global) -> Result<Fragment, NoMemory>
+    ensures { IfOk result (λ part. part ≡ fragment_of scattered 0) }
+{
+    Ok(Fragment::from_parts(FragmentParts {
+        number: 0,
+        owned: vec![in alloc; 1]?,
+        mirrors: Vec::new(alloc),
+        readings: Rows::from_offsets(Vec::new(alloc), vec![in alloc; 0, 0]?),
+        readers: Rows::from_offsets(Vec::new(alloc), vec![in alloc; 0, 0]?),
+        routes: Rows::from_offsets(Vec::new(alloc), vec![in alloc; 0, 0]?),
+    }))
+}
+
+/// The fragment with vertices 1 and 3.
+fn second_part(alloc: Global) -> Result<Fragment, NoMemory>
+    ensures { IfOk result (λ part. part ≡ fragment_of scattered 1) }
+{
+    Ok(Fragment::from_parts(FragmentParts {
+        number: 1,
+        owned: vec![in alloc; 0, 2]?,
+        mirrors: Vec::new(alloc),
+        readings: Rows::from_offsets(Vec::new(alloc), vec![in alloc; 0, 0, 0]?),
+        readers: Rows::from_offsets(Vec::new(alloc), vec![in alloc; 0, 0, 0]?),
+        routes: Rows::from_offsets(Vec::new(alloc), vec![in alloc; 0, 0, 0]?),
+    }))
+}
+
+fn local_with(alloc: Global, part: &Fragment, values: &[u64]) -> Result<Local, NoMemory>
+    requires { length values.now ≡ place_count part.now }
+    ensures { IfOk result (λ local. length local.values ≡ place_count part.now) }
+{
+    let mut local = Local::new(alloc, part, 0)?;
+    local.load(values);
+    Ok(local)
+}
+
+#[test]
+fn an_owner_gives_the_value_of_its_vertex(rt: HostRuntime) -> Result<(), Fail> {
+    let job = scattered(rt.alloc())?;
+    let fragments = [first_part(rt.alloc())?, second_part(rt.alloc())?];
+    let first = local_with(rt.alloc(), &fragments[0], &[5])?;
+    let second = local_with(rt.alloc(), &fragments[1], &[7, 9])?;
+    let answer = assemble(rt.alloc(), &job, &fragments, &[first, second])?;
+    let rows = [(1, 7), (2, 5), (3, 9)].map(|(id, value)| AnswerRow { id, value });
+    assert_eq!(rt; answer.kind, Kind::Label);
+    assert_eq!(rt; answer.rows.as_slice(), rows.as_slice());
     Ok(())
 }
