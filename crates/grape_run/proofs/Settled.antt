@@ -60,7 +60,7 @@ locals_fit h parts locals hub same have =
     let long = ap (λ (ps : List FragmentLists). length ps) same ∙ length-map-range_with_len (fragment_of h.job) 0 h.job.settings.fragments in
     fit_each parts (workers_of h) locals (omega (arith, n, long))
     (λ i l. places_each h hub i l ∙ sym (ap (λ (q : FragmentLists). place_count q)
-        (ap (λ (ps : List FragmentLists). slice_index_or ps i no_lists) same ∙ get_or-map-range_with_len (fragment_of h.job) 0 h.job.settings.fragments i i no_lists (omega (arith, l, n)) (omega arith))))
+    (ap (λ (ps : List FragmentLists). slice_index_or ps i no_lists) same ∙ get_or-map-range_with_len (fragment_of h.job) 0 h.job.settings.fragments i i no_lists (omega (arith, l, n)) (omega arith))))
     have
 
 pub locals_greatest : QuietIsTheAnswer → (h : HubValues) (job : Job) (locals : List LocalValues) → IsHub h → h.job ≡ job → is_quiet (workers_of h) ≡ true → HaveValues h locals → AreGreatest job locals

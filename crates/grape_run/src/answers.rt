@@ -10,7 +10,7 @@ use crate::engine::settle;
 use answer_text::{Answer, assemble};
 use fragment_cut::fragment;
 use grape_port::NoMemory;
-use graph_core::{Fragment, Job, Query, greatest_is_meaning, greatest_is_there};
+use graph_core::{Fragment, Job, Query};
 use pie_core::Local;
 use pie_dist::Dist;
 use pie_flood::{Labels, Reach};
@@ -22,8 +22,6 @@ pub(crate) fn answer_of(alloc: Global, job: &Job) -> Result<Answer, NoMemory>
     requires built { IsBuilt job.now }
     ensures { IfOk result (λ answer. IsAnswerText job.now (answer_text answer.kind answer.rows)) }
 {
-    greatest_is_there();
-    greatest_is_meaning();
     let fragments = fragment(alloc, job)?;
     let locals = locals_of(alloc, job, &fragments)?;
     assemble(alloc, job, &fragments, &locals)

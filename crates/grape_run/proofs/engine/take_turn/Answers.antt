@@ -35,10 +35,12 @@ evaluate-requires g c =
     let parts = c.requires.fragments ∙ ap (λ (job : Job). fragments_of job) (sym chosen.1.0) in
     let is_for = subst (λ (job : Job). g.P.Pie.is_for c.args.program.now job) (sym chosen.1.0) c.requires.program in
     let part = part_of_worker new 0 fresh work c.args.fragments.now c.index-fragments-work.result c.next.ensures.hub chosen.2 parts c.index-fragments-work.is in
-    let counters : g.P.Pie.counters_for new.job ≡ new.counters = ap (λ (job : Job). g.P.Pie.counters_for job) chosen.1.0 ∙ (sym c.requires.counters ∙ sym chosen.1.1) in
-    (new.job, is_for,
+    let counters : g.P.Pie.counters_for new.job ≡ new.counters = ap (λ (job : Job). g.P.Pie.counters_for job) chosen.1.0 ∙ (sym c.requires.counters ∙ sym chosen.1.1) in (
+      new.job,
+      is_for,
       evaluates new.job (equations_of new.job) (g.P.Pie.equations c.args.program.now new.job) (fragment_of new.job work.worker) c.index-fragments-work.result work.fresh work.local new.counters (g.P.Pie.counters_for new.job) work.hand
-      (g.met.P.Pie.of_query c.args.program.now new.job is_for) part counters (c.works_go_round.ensures.evaluated new 0 fresh work c.next.ensures.hub chosen.2 ready))
+          (g.met.P.Pie.of_query c.args.program.now new.job is_for) part counters (c.works_go_round.ensures.evaluated new 0 fresh work c.next.ensures.hub chosen.2 ready),
+    )
 
 pub give-requires : goal.give-requires
 give-requires g c =
@@ -54,9 +56,9 @@ give-requires g c =
     let counters : g.P.Pie.counters_for new.job ≡ new.counters = ap (λ (job : Job). g.P.Pie.counters_for job) chosen.1.0 ∙ (sym c.requires.counters ∙ sym chosen.1.1) in
     let same = g.met.P.Pie.of_query c.args.program.now new.job is_for in
     let may = evaluates new.job (equations_of new.job) (g.P.Pie.equations c.args.program.now new.job) (fragment_of new.job work.worker) c.index-fragments-work.result work.fresh work.local new.counters (g.P.Pie.counters_for new.job) work.hand
-        same part counters (c.works_go_round.ensures.evaluated new 0 fresh work c.next.ensures.hub chosen.2 ready) in
+    same part counters (c.works_go_round.ensures.evaluated new 0 fresh work c.next.ensures.hub chosen.2 ready) in
     let solved = solves (equations_of new.job) (g.P.Pie.equations c.args.program.now new.job) (fragment_of new.job work.worker) c.index-fragments-work.result work.local.values work.hand.values c.evaluate.new.local.values
-        same part (c.evaluate.ensures.solution new.job is_for may) in
+    same part (c.evaluate.ensures.solution new.job is_for may) in
     c.works_go_round.ensures.given new 0 fresh work c.evaluate.new.local c.next.ensures.hub chosen.2 solved c.evaluate.ensures.before c.evaluate.ensures.counters
 
 pub returns-in-Took-clause-calm : goal.returns-in-Took-clause-calm
