@@ -32,6 +32,7 @@ new_disk room bytes fails stop = record { file = record { start = bytes; done = 
 abbrev pub now : MemDiskState → PlatterState
 now s = platter s.file.start s.file.done
 
+-- a call with this number is the first to stop, or comes after it
 abbrev pub is_stopped : Option ℕ → ℕ → Bool
 is_stopped None number = false
 is_stopped (Some first) number = nat_le first number

@@ -21,6 +21,7 @@ at_rest file = record { stable = file; read = file; pending = replicate (length 
 abbrev pub marked : ℕ → ℕ → List Bool → List Bool
 marked at n pending = take at pending ++ replicate (at - length pending) true ++ replicate n true ++ drop (at + n) pending
 
+-- what a write or a sync makes of it
 abbrev pub after : Did → PlatterState → PlatterState
 after (wrote at bytes) p = record { stable = p.stable; read = written at bytes p.read; pending = marked at (length bytes) p.pending }
 after synced p = at_rest p.read

@@ -1,5 +1,5 @@
-ghost use Rattle.std.specs.Prelude.{◌≡◌, ◌-◌, ◌^◌, ◌<◌, is_ok, if◌then◌else◌, IsErr};
-ghost use Rattle.grape_port.specs.Ports.{one_more};
+ghost use Rattle.std.specs.Prelude.{◌≡◌, ◌-◌, ◌^◌, ◌<◌, ◌≤◌, is_ok, if◌then◌else◌, IsErr};
+ghost use Rattle.grape_port.specs.Ports.{Rose, one_more};
 ghost use Rattle.grape_disk.specs.Images.{Counts};
 ghost use Rattle.grape_disk.specs.FileDisks.{content_of, images_of, calls_of, faults_of, never};
 
@@ -57,19 +57,17 @@ impl<R: Files + Drop> FileDisk<R> {
         self.calls = self.calls.saturating_add(1);
         match outcome {
             Ok(value) => Ok(value),
-            Err(_) => {
-                self.faults = self.faults.saturating_add(1);
-                Err(Failed)
-            }
+            Err(_) => self.fail(),
         }
     }
 
-    // Counts a call for which there is no number.
-    fn refuse<T>(&mut self) -> Result<T, Failed>
-        requires { self.old.calls ≡ 2 ^ 64 - 1 }
+    // Counts a fault.
+    fn fail<T>(&mut self) -> Result<T, Failed>
         ensures err { IsErr result }
-        ensures counted { self.new.faults ≡ one_more self.old.faults }
-        ensures counts { Counts calls_of faults_of never result self.old self.new }
+        ensures calls { self.new.calls ≡ self.old.calls }
+        ensures faults { self.new.faults ≡ one_more self.old.faults }
+        ensures rose { Rose self.old.faults self.new.faults }
+        ensures faults_stay { self.old.faults ≤ self.new.faults }
     {
         self.faults = self.faults.saturating_add(1);
         Err(Failed)
@@ -97,7 +95,7 @@ impl<R: Files + Drop> Disk for FileDisk<R> {
         ensures counts { Counts calls_of faults_of never result self.old self.new }
     {
         if self.calls == u64::MAX {
-            return self.refuse();
+            return self.fail();
         }
         let outcome = self.file.len();
         self.count(outcome)
@@ -109,7 +107,7 @@ impl<R: Files + Drop> Disk for FileDisk<R> {
         ensures counts { Counts calls_of faults_of never result self.old self.new }
     {
         if self.calls == u64::MAX {
-            return self.refuse();
+            return self.fail();
         }
         let outcome = self.file.read_at(at, to);
         self.count(outcome)
@@ -121,7 +119,7 @@ impl<R: Files + Drop> Disk for FileDisk<R> {
         ensures counts { Counts calls_of faults_of never result self.old self.new }
     {
         if self.calls == u64::MAX {
-            return self.refuse();
+            return self.fail();
         }
         let outcome = self.file.write_at(at, from);
         self.count(outcome)
@@ -133,7 +131,7 @@ impl<R: Files + Drop> Disk for FileDisk<R> {
         ensures counts { Counts calls_of faults_of never result self.old self.new }
     {
         if self.calls == u64::MAX {
-            return self.refuse();
+            return self.fail();
         }
         let outcome = self.file.sync();
         self.count(outcome)

@@ -1,7 +1,9 @@
 //! The file of states as a disk: what a read gives, and what a crash may leave.
 //!
 //! [`Disk`] is one file with its calls. All that keeps states in the crates above is generic over
-//! it, and speaks of crashes by the members of its contract.
+//! it, and speaks of crashes by the members of its contract. [`MemDisk`] is such a file in memory,
+//! with faults at chosen calls, and gives images of a crash. [`FileDisk`] is one of the system; it
+//! counts every failure and tells nothing of bytes.
 #![tactic(auto)]
 
 mod disk;
