@@ -9,7 +9,7 @@ use Rattle.std.proofs.lemmas.Nat.{be_bytes_8}
 use Rattle.byteorder.specs.Endian.{big_bytes}
 use Rattle.value_order.specs.declared.order.Order.{Order}
 use Rattle.snapshot_file.specs.Tests.{is_epoch, is_value, is_mail, value_tests, mail_tests}
-use Rattle.snapshot_file.proofs.Passing.{Pass, PartPasses, PartsPass, Passes, form_from}
+use Rattle.snapshot_file.proofs.Passing.{Pass, PartPasses, PartsPass, form_from}
 use Rattle.token_cut.specs.Parts.{PartValues}
 use Rattle.token_cut.specs.Shapes.{PartStarts, Starts}
 use Rattle.snapshot_file.specs.Bodies.{phase_byte, number_bytes, part_bytes, Form}

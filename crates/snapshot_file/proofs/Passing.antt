@@ -1,5 +1,5 @@
 -- A snapshot is in the form exactly where its numbers pass the tests.
-use Rattle.std.proofs.Common.{◌≡◌, ◌⊎◌, inl, inr, ⊎_elim, ℕ, ◌+◌, ◌%◌, ◌^◌, ◌<◌, ◌≤◌, Bool, true, false, ◌&&◌, ◌||◌, nat_le, nat_lt, ◌==◌, IsTrue, List, [], ◌∷◌, ◌++◌, map, bit_and, refl, sym, ap, ◌∙◌, subst, arith}
+use Rattle.std.proofs.Common.{◌≡◌, ◌⊎◌, inl, inr, ⊎_elim, ℕ, ◌%◌, ◌^◌, ◌<◌, ◌≤◌, Bool, true, false, ◌||◌, ◌==◌, IsTrue, List, [], ◌∷◌, ◌++◌, map, refl, sym, ap, ◌∙◌, subst, arith}
 use Rattle.std.specs.List.{AllZip, AllByRecursion}
 use Rattle.std.specs.Int.Bits.{and_self}
 use Rattle.std.proofs.lemmas.Bool.Decides.{nat_tests}
@@ -44,7 +44,7 @@ below_to Least start n is = grind (arith, nat_tests)
 below_to Mask start n is = grind (arith, nat_tests)
 
 mail_from : (order : Order) (start n : ℕ) → is_mail order start n ≡ true → (n ≡ NOTHING) ⊎ Below order n start
-mail_from order start n is = either (n == NOTHING) (is_below order start n) is
+mail_from order start n is = ⊎_elim (λ one. inl (nothing n one)) (λ other. inr (below_from order start n other)) (split (n == NOTHING) (is_below order start n) is)
   where
     nothing : (n : ℕ) → (n == NOTHING) ≡ true → n ≡ NOTHING
     nothing n is = grind (arith, nat_tests)
@@ -52,9 +52,6 @@ mail_from order start n is = either (n == NOTHING) (is_below order start n) is
     split : (a b : Bool) → (a || b) ≡ true → (a ≡ true) ⊎ (b ≡ true)
     split true b is = inl refl
     split false b is = inr is
-
-    either : (a b : Bool) → (n == NOTHING || is_below order start n) ≡ true → (n ≡ NOTHING) ⊎ Below order n start
-    either a b is = ⊎_elim (λ one. inl (nothing n one)) (λ other. inr (below_from order start n other)) (split (n == NOTHING) (is_below order start n) is)
 
 mail_to : (order : Order) (start n : ℕ) → (n ≡ NOTHING) ⊎ Below order n start → is_mail order start n ≡ true
 mail_to order start n (inl is) = ap (λ (m : ℕ). is_mail order start m) is

@@ -1,5 +1,4 @@
-use Rattle.std.proofs.Common.{ℕ, List, ◌+◌, ap, sym, ◌∙◌}
-use Rattle.token_cut.specs.Shapes.{PartStarts}
+use Rattle.std.proofs.Common.{ℕ, ◌+◌, ap, sym, ◌∙◌}
 use Rattle.snapshot_file.specs.Lengths.{parts_length}
 use Rattle.snapshot_file.proofs.ReadBack.{length_body}
 use Rattle.snapshot_file.proofs.lengths.body_len.Goals as goal
