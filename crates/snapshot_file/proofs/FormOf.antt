@@ -8,7 +8,8 @@ use Rattle.std.proofs.lemmas.List.Concat.{flat_map-append}
 use Rattle.std.proofs.lemmas.Nat.{be_bytes_8}
 use Rattle.byteorder.specs.Endian.{big_bytes}
 use Rattle.value_order.specs.declared.order.Order.{Order}
-use Rattle.token_cut.specs.Form.{is_epoch, is_value, is_mail, value_tests, mail_tests, Pass, IsPartInForm, ArePartsInForm}
+use Rattle.snapshot_file.specs.Tests.{is_epoch, is_value, is_mail, value_tests, mail_tests}
+use Rattle.snapshot_file.proofs.Passing.{Pass, PartPasses, PartsPass, form_from}
 use Rattle.token_cut.specs.Parts.{PartValues}
 use Rattle.token_cut.specs.Shapes.{PartStarts, Starts}
 use Rattle.snapshot_file.specs.Bodies.{phase_byte, number_bytes, part_bytes, Form}
@@ -113,7 +114,7 @@ phase_back (suc (suc n)) low = absurd (⊎_elim (λ (l : (nat_le (suc (suc n)) 1
     differ e = cc
 
 record PartStands (order : Order) (starts : PartStarts) (bytes : List ℕ) (part : PartValues) : Type 0 where
-  in_form : IsPartInForm order starts part
+  in_form : PartPasses order starts part
   are : part_bytes part ≡ take (part_length starts) bytes
 
 record Made (b : Bool) (f : List ℕ → PartValues) (r : Result (List ℕ) ℕ) (part : PartValues) : Type 0 where
@@ -162,7 +163,7 @@ part_stands order starts at bytes part long are e =
 -- ---- the parts
 
 record PartsStand (order : Order) (shape : List PartStarts) (bytes : List ℕ) (parts : List PartValues) : Type 0 where
-  in_form : ArePartsInForm order shape parts
+  in_form : PartsPass order shape parts
   are : flat_map part_bytes parts ≡ take (parts_length shape) bytes
 
 record FirstRead (first : Result PartValues ℕ) (F : PartValues → Result (List PartValues) ℕ) (parts : List PartValues) : Type 0 where
@@ -209,5 +210,5 @@ body_form shape slot at bytes parts long are is e =
           sym (take_all (8 + parts_length shape.parts) bytes (omega (arith, long))) ∙ take_more_of 8 (parts_length shape.parts) bytes (omega (arith, long))
           ∙ ap (λ (l : List ℕ). l ++ take (parts_length shape.parts) (drop 8 bytes)) (sym (number_back bytes (omega (arith, long)) are))
           ∙ ap (λ (l : List ℕ). big_bytes 8 (number bytes) ++ l) (sym stands.are);
-      in_form = record { epoch = is; parts = stands.in_form };
+      in_form = form_from shape slot (record { epoch = number bytes; parts = parts }) (record { epoch = is; parts = stands.in_form });
     }

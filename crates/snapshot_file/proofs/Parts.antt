@@ -5,7 +5,7 @@ use Rattle.std.proofs.lemmas.List.{length-map, take_at, drop_at}
 use Rattle.value_order.specs.declared.order.Order.{Order}
 use Rattle.token_cut.specs.declared.phase.Phase.{Phase}
 use Rattle.token_cut.specs.declared.phase.Phase.TheVariants.{Fresh, Rest}
-use Rattle.token_cut.specs.Form.{is_value, value_tests, mail_tests}
+use Rattle.snapshot_file.specs.Tests.{is_value, value_tests, mail_tests}
 use Rattle.token_cut.specs.Parts.{PartValues}
 use Rattle.token_cut.specs.Shapes.{PartStarts}
 use Rattle.snapshot_file.specs.declared.rule.Rule.{Rule}

@@ -9,7 +9,9 @@ use Rattle.byteorder.specs.Numbers.{big_number-reads_back, length-bytes_high_fir
 use Rattle.value_order.specs.declared.order.Order.{Order}
 use Rattle.token_cut.specs.declared.phase.Phase.{Phase}
 use Rattle.token_cut.specs.declared.phase.Phase.TheVariants.{Fresh, Rest}
-use Rattle.token_cut.specs.Form.{is_epoch, is_value, is_mail, value_tests, mail_tests, Pass, IsPartInForm, ArePartsInForm, IsInForm}
+use Rattle.token_cut.specs.Form.{IsInForm}
+use Rattle.snapshot_file.specs.Tests.{is_epoch, is_value, is_mail, value_tests, mail_tests}
+use Rattle.snapshot_file.proofs.Passing.{Pass, PartPasses, PartsPass, Passes, form_to}
 use Rattle.token_cut.specs.Parts.{PartValues, SnapshotParts}
 use Rattle.token_cut.specs.Shapes.{PartStarts, Starts, IsPartShape}
 use Rattle.snapshot_file.specs.Bodies.{phase_byte, number_bytes, part_bytes, body_bytes, Form}
@@ -75,17 +77,17 @@ phase_low Rest = refl
 pub part_front : (p : PartValues) → length (part_bytes p) ≡ 1 + 8 * length p.values + 8 * length p.mail
 part_front p = omega (arith, length-append (number_bytes p.values) (number_bytes p.mail), length_number_bytes p.values, length_number_bytes p.mail)
 
-places_of : (order : Order) (starts : PartStarts) (p : PartValues) → IsPartInForm order starts p → length p.values ≡ length starts.owned + length starts.mirrors
+places_of : (order : Order) (starts : PartStarts) (p : PartValues) → PartPasses order starts p → length p.values ≡ length starts.owned + length starts.mirrors
 places_of order starts p in_form =
     pass_length _ _ in_form.values ∙ length-map (starts.owned ++ starts.mirrors) (is_value order p.phase) ∙ length-append starts.owned starts.mirrors
 
-mail_of : (order : Order) (starts : PartStarts) (p : PartValues) → IsPartInForm order starts p → length p.mail ≡ length starts.mirrors
+mail_of : (order : Order) (starts : PartStarts) (p : PartValues) → PartPasses order starts p → length p.mail ≡ length starts.mirrors
 mail_of order starts p in_form = pass_length _ _ in_form.mail ∙ length-map starts.mirrors (is_mail order)
 
-pub length_part : (order : Order) (starts : PartStarts) (p : PartValues) → IsPartInForm order starts p → length (part_bytes p) ≡ part_length starts
+pub length_part : (order : Order) (starts : PartStarts) (p : PartValues) → PartPasses order starts p → length (part_bytes p) ≡ part_length starts
 length_part order starts p in_form = omega (arith, part_front p, places_of order starts p in_form, mail_of order starts p in_form)
 
-part_joined : (order : Order) (starts : PartStarts) (p : PartValues) → IsPartInForm order starts p → part_of starts p.phase (p.values ++ p.mail) ≡ p
+part_joined : (order : Order) (starts : PartStarts) (p : PartValues) → PartPasses order starts p → part_of starts p.phase (p.values ++ p.mail) ≡ p
 part_joined order starts p in_form =
     let places = places_of order starts p in_form in
     ap (λ (vs : List ℕ). part_with vs (drop (length starts.owned + length starts.mirrors) (p.values ++ p.mail))) (take_at p.values p.mail _ places)
@@ -94,7 +96,7 @@ part_joined order starts p in_form =
     part_with : List ℕ → List ℕ → PartValues
     part_with vs ms = record { phase = p.phase; values = vs; mail = ms }
 
-pub part_read : (order : Order) (starts : PartStarts) (p : PartValues) (at : ℕ) (rest : List ℕ) → IsPartInForm order starts p → part_decoded order starts at (part_bytes p ++ rest) ≡ Ok p
+pub part_read : (order : Order) (starts : PartStarts) (p : PartValues) (at : ℕ) (rest : List ℕ) → PartPasses order starts p → part_decoded order starts at (part_bytes p ++ rest) ≡ Ok p
 part_read order starts p at rest in_form =
     let tests : Phase → List (ℕ → Bool) = λ phase. value_tests order phase starts ++ mail_tests order starts in
     let bytes = number_bytes p.values ++ number_bytes p.mail ++ rest in
@@ -112,7 +114,7 @@ part_read order starts p at rest in_form =
 
 -- ---- the body
 
-pub parts_read : (order : Order) (shape : List PartStarts) (parts : List PartValues) (at : ℕ) (rest : List ℕ) → ArePartsInForm order shape parts
+pub parts_read : (order : Order) (shape : List PartStarts) (parts : List PartValues) (at : ℕ) (rest : List ℕ) → PartsPass order shape parts
     → parts_decoded order shape at (flat_map part_bytes parts ++ rest) ≡ Ok parts
 parts_read order [] [] at rest p = refl
 parts_read order [] (part ∷ parts) at rest p = absurd p
@@ -132,7 +134,7 @@ epoch_fits : (slot n : ℕ) → IsTrue (is_epoch slot n) → n < 2 ^ 64
 epoch_fits slot n is = grind (arith, nat_tests)
 
 -- the bytes of a snapshot in the form, whatever stands behind them
-pub body_read : (shape : Starts) (slot at : ℕ) (snapshot : SnapshotParts) (rest : List ℕ) → IsInForm shape slot snapshot → decoded shape slot at (body_bytes snapshot ++ rest) ≡ Ok snapshot
+pub body_read : (shape : Starts) (slot at : ℕ) (snapshot : SnapshotParts) (rest : List ℕ) → Passes shape slot snapshot → decoded shape slot at (body_bytes snapshot ++ rest) ≡ Ok snapshot
 body_read shape slot at snapshot rest in_form =
     let split = append_assoc (big_bytes 8 snapshot.epoch) (flat_map part_bytes snapshot.parts) rest in
     let tail = flat_map part_bytes snapshot.parts ++ rest in
@@ -143,9 +145,9 @@ body_read shape slot at snapshot rest in_form =
 
 pub reads_back : (shape : Starts) (slot at : ℕ) (body : List ℕ) (snapshot : SnapshotParts) → Form shape slot body snapshot → decoded shape slot at body ≡ Ok snapshot
 reads_back shape slot at body snapshot form =
-    ap (decoded shape slot at) (form.bytes ∙ sym (append-nil (body_bytes snapshot))) ∙ body_read shape slot at snapshot [] form.in_form
+    ap (decoded shape slot at) (form.bytes ∙ sym (append-nil (body_bytes snapshot))) ∙ body_read shape slot at snapshot [] (form_to shape slot snapshot form.in_form)
 
-pub length_parts : (order : Order) (shape : List PartStarts) (parts : List PartValues) → ArePartsInForm order shape parts → length (flat_map part_bytes parts) ≡ parts_length shape
+pub length_parts : (order : Order) (shape : List PartStarts) (parts : List PartValues) → PartsPass order shape parts → length (flat_map part_bytes parts) ≡ parts_length shape
 length_parts order [] [] p = refl
 length_parts order [] (part ∷ parts) p = absurd p
 length_parts order (starts ∷ shape) [] p = absurd p
@@ -153,7 +155,8 @@ length_parts order (starts ∷ shape) (part ∷ parts) p =
     omega (arith, length-append (part_bytes part) (flat_map part_bytes parts), length_part order starts part p.0, length_parts order shape parts p.1)
 
 pub length_body : (shape : Starts) (slot : ℕ) (snapshot : SnapshotParts) → IsInForm shape slot snapshot → length (body_bytes snapshot) ≡ body_length shape
-length_body shape slot snapshot in_form =
+length_body shape slot snapshot form =
+    let in_form = form_to shape slot snapshot form in
     omega (arith, length-append (big_bytes 8 snapshot.epoch) (flat_map part_bytes snapshot.parts), length_parts shape.order shape.parts snapshot.parts in_form.parts)
 
 -- ---- the loops that write

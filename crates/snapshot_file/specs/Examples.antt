@@ -1,5 +1,5 @@
 -- A shape and some snapshots of it, for tests and worked rows.
-use Rattle.std.specs.Prelude.{ℕ, [], ◌∷◌}
+use Rattle.std.specs.Prelude.{[], ◌∷◌}
 use Rattle.value_order.specs.declared.TheConstants.{NOTHING}
 use Rattle.value_order.specs.declared.order.Order.TheVariants.{Least}
 use Rattle.token_cut.specs.declared.phase.Phase.TheVariants.{Fresh, Rest}

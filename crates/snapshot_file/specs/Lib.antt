@@ -4,3 +4,4 @@ pub mod Fields
 pub mod Lengths
 pub mod Reading
 pub mod Rules
+pub mod Tests

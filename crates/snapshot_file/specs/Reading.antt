@@ -4,7 +4,7 @@ use Rattle.byteorder.specs.Endian.{big_number}
 use Rattle.value_order.specs.declared.order.Order.{Order}
 use Rattle.token_cut.specs.declared.phase.Phase.{Phase}
 use Rattle.token_cut.specs.declared.phase.Phase.TheVariants.{Fresh, Rest}
-use Rattle.token_cut.specs.Form.{is_epoch, value_tests, mail_tests}
+use Rattle.snapshot_file.specs.Tests.{is_epoch, value_tests, mail_tests}
 use Rattle.token_cut.specs.Parts.{PartValues, SnapshotParts}
 use Rattle.token_cut.specs.Shapes.{PartStarts, Starts}
 use Rattle.snapshot_file.specs.Lengths.{part_length}

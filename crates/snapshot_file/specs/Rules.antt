@@ -3,7 +3,7 @@ use Rattle.std.specs.Prelude.{ℕ, Bool, ◌==◌}
 use Rattle.value_order.specs.declared.order.Order.{Order}
 use Rattle.token_cut.specs.declared.phase.Phase.{Phase}
 use Rattle.token_cut.specs.declared.phase.Phase.TheVariants.{Fresh, Rest}
-use Rattle.token_cut.specs.Form.{is_below, is_mail}
+use Rattle.snapshot_file.specs.Tests.{is_below, is_mail}
 use Rattle.snapshot_file.specs.declared.rule.Rule.{Rule}
 use Rattle.snapshot_file.specs.declared.rule.Rule.TheVariants.{Start, Below, Mail}
 

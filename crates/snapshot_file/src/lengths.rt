@@ -1,6 +1,9 @@
-ghost use Rattle.std.specs.Prelude.{◌≡◌, ◌≤◌, ◌<◌, ◌^◌, length};
+ghost use Rattle.std.specs.Prelude.{◌≡◌, ◌≤◌, ◌<◌, ◌^◌, ℕ, length};
 ghost use Rattle.std.specs.List.{AllByRecursion};
+ghost use Rattle.token_cut.specs.Form.{IsInForm};
+ghost use Rattle.token_cut.specs.Parts.{SnapshotParts};
 ghost use Rattle.token_cut.specs.Shapes.{IsShape, IsPartShape};
+ghost use Rattle.snapshot_file.specs.Bodies.{body_bytes};
 ghost use Rattle.snapshot_file.specs.Lengths.{part_length, parts_length, body_length, slot_length, file_length};
 
 use token_cut::{Shape, ShapePart};
@@ -10,6 +13,7 @@ use token_cut::{Shape, ShapePart};
 pub fn body_len(shape: &Shape) -> u64
     requires { IsShape shape.now }
     ensures length { result ≡ body_length shape.now }
+    ensures bodies { (slot : ℕ) (snapshot : SnapshotParts) → IsInForm shape.now slot snapshot → length (body_bytes snapshot) ≡ result }
     ensures small { result < 2 ^ 32 }
 {
     8 + parts_len(&shape.parts)

@@ -1,7 +1,7 @@
 // A body is read from its front: each step reads a field or a few, and its slice begins at the first of them.
 ghost use Rattle.std.specs.Prelude.{◌≡◌, ◌≤◌, ◌<◌, ◌+◌, ◌*◌, ◌^◌, ◌∷◌, [], ◌++◌, ℕ, length, map, replicate, drop, slice_index, Ok, Err, IfOk, IfErr, OnOk, OnErr, MatchOption};
 ghost use Rattle.std.specs.List.{flat_map, AllByRecursion};
-ghost use Rattle.token_cut.specs.Form.{is_epoch, value_tests, mail_tests};
+ghost use Rattle.snapshot_file.specs.Tests.{is_epoch};
 ghost use Rattle.token_cut.specs.Parts.{SnapshotParts, PartValues};
 ghost use Rattle.token_cut.specs.Shapes.{IsShape, IsPartShape, HaveShape};
 ghost use Rattle.snapshot_file.specs.Bodies.{Form, phase_byte};

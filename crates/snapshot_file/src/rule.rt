@@ -1,5 +1,5 @@
 ghost use Rattle.std.specs.Prelude.{◌≡◌};
-ghost use Rattle.token_cut.specs.Form.{is_below};
+ghost use Rattle.snapshot_file.specs.Tests.{is_below};
 ghost use Rattle.snapshot_file.specs.Rules.{allows_of, rule_of};
 
 use token_cut::Phase;

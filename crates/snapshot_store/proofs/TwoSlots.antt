@@ -4,7 +4,7 @@ use Rattle.std.proofs.lemmas.Bool.Decides.{nat_tests}
 use Rattle.grape_disk.specs.Images.{Torn}
 use Rattle.token_cut.specs.Parts.{PartValues, SnapshotParts}
 use Rattle.token_cut.specs.Shapes.{Starts}
-use Rattle.token_cut.specs.Form.{is_epoch}
+use Rattle.snapshot_file.specs.Tests.{is_epoch}
 use Rattle.snapshot_file.specs.Lengths.{slot_length, file_length}
 use Rattle.snapshot_file.specs.Reading.{read_as, decoded}
 use Rattle.snapshot_store.specs.State.{FileState, OPEN, is_open, by_header, slot_place, slot, epoch_of, state_of, by_slot, by_slots, or_by_slots, file_state, HasEpoch, IsKept}

@@ -1,12 +1,12 @@
 -- Files byte by byte, and what they stand for.
 use Rattle.std.specs.Prelude.{ℕ, List, [], ◌∷◌, ◌++◌, replicate}
 use Rattle.byteorder.specs.Endian.{big_bytes}
-use Rattle.value_order.specs.declared.TheConstants.{NOTHING}
 use Rattle.value_order.specs.declared.order.Order.TheVariants.{Least}
-use Rattle.token_cut.specs.declared.phase.Phase.TheVariants.{Fresh, Rest}
+use Rattle.token_cut.specs.declared.phase.Phase.TheVariants.{Rest}
 use Rattle.token_cut.specs.Parts.{SnapshotParts}
 use Rattle.token_cut.specs.Shapes.{Starts}
 use Rattle.snapshot_file.specs.Bodies.{body_bytes}
+use Rattle.snapshot_file.specs.Examples.{sealed}
 use Rattle.snapshot_store.specs.State.{OPEN, NAME}
 
 -- any 32 bytes in the place of the input's digest
@@ -17,8 +17,9 @@ digest = replicate 32 0xA5
 abbrev pub one_vertex : Starts
 one_vertex = record { order = Least; parts = record { owned = 0 ∷ []; mirrors = [] } ∷ [] }
 
-abbrev pub first_kept : SnapshotParts
-first_kept = record { epoch = 1; parts = record { phase = Rest; values = 0 ∷ []; mail = [] } ∷ [] }
+-- its snapshot with an epoch
+abbrev pub kept : ℕ → SnapshotParts
+kept epoch = record { epoch = epoch; parts = record { phase = Rest; values = 0 ∷ []; mail = [] } ∷ [] }
 
 abbrev pub hundred_bytes : List ℕ
 hundred_bytes =
@@ -33,9 +34,6 @@ hundred_bytes =
 abbrev pub longer_file : List ℕ
 longer_file = hundred_bytes ++ 7 ∷ 7 ∷ 7 ∷ []
 
-abbrev pub second_kept : SnapshotParts
-second_kept = record { epoch = 2; parts = record { phase = Rest; values = 0 ∷ []; mail = [] } ∷ [] }
-
 -- the second snapshot in slot 0, and the first one still in slot 1
 abbrev pub two_open : List ℕ
 two_open =
@@ -45,21 +43,6 @@ two_open =
     ++ replicate 16 0
     ++ 0x47 ∷ 0 ∷ 0 ∷ 0 ∷ 0 ∷ 0 ∷ 0 ∷ 0 ∷ 2 ∷ 1 ∷ 0 ∷ 0 ∷ 0 ∷ 0 ∷ 0 ∷ 0 ∷ 0 ∷ 0 ∷ []
     ++ 0x47 ∷ 0 ∷ 0 ∷ 0 ∷ 0 ∷ 0 ∷ 0 ∷ 0 ∷ 1 ∷ 1 ∷ 0 ∷ 0 ∷ 0 ∷ 0 ∷ 0 ∷ 0 ∷ 0 ∷ 0 ∷ []
-
--- six vertices in three parts, each with its own number as start
-abbrev pub six_vertices : Starts
-six_vertices = record {
-  order = Least;
-  parts = record { owned = 1 ∷ 2 ∷ []; mirrors = 3 ∷ 6 ∷ [] } ∷ record { owned = 3 ∷ 4 ∷ []; mirrors = 2 ∷ [] } ∷ record { owned = 5 ∷ 6 ∷ []; mirrors = 1 ∷ [] } ∷ [];
-}
-
-abbrev pub sealed : SnapshotParts
-sealed = record {
-  epoch = 1;
-  parts = record { phase = Fresh; values = 1 ∷ 2 ∷ 3 ∷ 6 ∷ []; mail = 2 ∷ 1 ∷ [] }
-      ∷ record { phase = Rest; values = 2 ∷ 4 ∷ 2 ∷ []; mail = NOTHING ∷ [] }
-      ∷ record { phase = Rest; values = 1 ∷ 1 ∷ 1 ∷ []; mail = NOTHING ∷ [] } ∷ [];
-}
 
 abbrev pub sealed_file : List ℕ
 sealed_file = OPEN ∷ NAME ++ digest ++ big_bytes 8 124 ++ replicate 16 0 ++ replicate 124 0 ++ OPEN ∷ body_bytes sealed

@@ -98,7 +98,7 @@ pub record IsKept (shape : Starts) (digest : List ℕ) (epoch : ℕ) (file : Lis
   pub whole : by_header shape digest (length file) (take 64 file) ≡ None
   pub kept : HasEpoch epoch (by_slots shape (slot shape 0 file) (slot shape 1 file))
 
--- what a crash in a put may leave: the state from before it, or the snapshot; and no longer file than before
+-- what a crash in a put may leave: a file that stands for what it stood for before, or for the snapshot, and is no longer than it was or has to be
 pub record KeepsOrTakes (shape : Starts) (digest : List ℕ) (snapshot : SnapshotParts) (file c : List ℕ) : Type 0 where
   pub state : (file_state shape digest c ≡ file_state shape digest file) ⊎ (file_state shape digest c ≡ last snapshot)
   pub size : length c ≤ max (length file) (file_length shape)
@@ -108,7 +108,7 @@ pub record Takes (shape : Starts) (digest : List ℕ) (snapshot : SnapshotParts)
   pub state : file_state shape digest file ≡ last snapshot
   pub kept : IsKept shape digest snapshot.epoch file
 
--- what a crash in a creation may leave: a file that stands for nothing, no longer than it has to be
+-- what a crash in a creation may leave: a file that stands for nothing, and is no longer than it was or has to be
 pub record StaysNothing (shape : Starts) (digest file c : List ℕ) : Type 0 where
   pub state : file_state shape digest c ≡ nothing
   pub size : length c ≤ max (length file) (file_length shape)

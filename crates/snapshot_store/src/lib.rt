@@ -14,6 +14,8 @@ mod opened;
 mod slots;
 mod steps;
 mod store;
+#[cfg(test)]
+mod tests;
 mod worked;
 
 pub use fault::StoreFault;

@@ -1,6 +1,6 @@
 ghost use Rattle.std.specs.Prelude.{◌≡◌, ◌≢◌, ◌⊎◌, ◌≤◌, ℕ, List, length, Some, IsTrue, IsErrOf, IfOk, IfErr, OnOk};
 ghost use Rattle.grape_port.specs.Ports.{Rose};
-ghost use Rattle.grape_disk.specs.Images.{Same, Leaves};
+ghost use Rattle.grape_disk.specs.Images.{AtRest, Same, Leaves};
 ghost use Rattle.token_cut.specs.Shapes.{IsShape};
 ghost use Rattle.snapshot_store.specs.Opening.{OpensAs, NamesBoth};
 ghost use Rattle.snapshot_store.specs.declared.fault.StoreFault.TheVariants.{Disk as DiskFault};
@@ -36,6 +36,7 @@ impl Store {
 
         ensures same { D.content disk.new ≡ D.content disk.old }
         ensures writes_nothing { IsTrue (D.honest disk.old) → Same D.content D.images D.moment disk.old disk.new × Leaves D.images D.moment disk.old disk.new (λ _. ⊥) }
+        ensures at_rest { IsTrue (D.honest disk.old) → (file : List ℕ) → AtRest D.content D.images D.moment disk.old file → AtRest D.content D.images D.moment disk.new file }
         ensures honest { D.honest disk.new ≡ D.honest disk.old }
 
         ensures disk_fault { IsErrOf result DiskFault → Rose (D.faults disk.old) (D.faults disk.new) }

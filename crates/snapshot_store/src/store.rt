@@ -50,8 +50,8 @@ impl Store {
     /// Makes the file of a store that has kept nothing, in the place of one that opens as nothing.
     ///
     /// On an honest disk with nothing pending, a crash at any moment of the call leaves a file that
-    /// opens as nothing, and no longer one than it has to be. After `StoreFault::Disk` the file is
-    /// one of those.
+    /// opens as nothing, and that is no longer than it was or has to be. After `StoreFault::Disk`
+    /// the file is one of those; after `StoreFault::NoMemory` the disk is untouched.
     pub fn create<D: Disk>(
         alloc: Global,
         disk: &mut D,
@@ -93,8 +93,9 @@ impl Store {
     /// Keeps a snapshot. At `Ok` it is kept: from then on each crash leaves a file that opens as it.
     ///
     /// On an honest disk with nothing pending, a crash at any moment of the call leaves a file that
-    /// opens as before or as the snapshot. After `StoreFault::Disk` the file is one of those: open
-    /// it again. After `StoreFault::NoMemory` the disk is untouched.
+    /// opens as before or as the snapshot, and that is no longer than it was or has to be. After
+    /// `StoreFault::Disk` the file is one of those: open it again. After `StoreFault::NoMemory` the
+    /// disk is untouched.
     pub fn put<D: Disk>(
         &mut self,
         disk: &mut D,

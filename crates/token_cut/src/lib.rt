@@ -10,6 +10,8 @@ mod phase;
 mod shape;
 mod shape_part;
 mod snapshot;
+#[cfg(test)]
+mod tests;
 
 pub use part::Part;
 pub use phase::Phase;

@@ -3,7 +3,7 @@ use Rattle.std.specs.List.{flat_map}
 use Rattle.std.specs.Vec.{with_items}
 use Rattle.std.proofs.lemmas.List.{with_items_is}
 use Rattle.value_order.specs.declared.order.Order.{Order}
-use Rattle.token_cut.specs.Form.{is_epoch}
+use Rattle.snapshot_file.specs.Tests.{is_epoch}
 use Rattle.token_cut.specs.Parts.{PartValues, SnapshotParts}
 use Rattle.token_cut.specs.Shapes.{PartStarts, Starts, HaveShape}
 use Rattle.snapshot_file.specs.declared.damaged.Damaged.{Damaged}
