@@ -1,5 +1,5 @@
 -- The shape of a job's snapshots as contracts see it: the order of its values, and for each worker the start values of its own vertices and of its mirrors.
-use Rattle.std.specs.Prelude.{◌≡◌, ℕ, ◌+◌, ◌<◌, ◌≤◌, List, [], ◌∷◌, ◌++◌, map, replicate, length}
+use Rattle.std.specs.Prelude.{◌≡◌, ℕ, ◌+◌, ◌≤◌, List, [], ◌∷◌, ◌++◌, map, replicate, length}
 use Rattle.std.specs.List.{AllByRecursion}
 use Rattle.value_order.specs.declared.order.Order.{Order}
 use Rattle.value_order.specs.declared.TheConstants.{NOTHING}
@@ -14,12 +14,10 @@ pub record Starts : Type 0 where
   pub order : Order
   pub parts : List PartStarts
 
--- as many vertices and mirrors as a worker may have, each of which starts below NOTHING
+-- as many vertices and mirrors as a worker may have
 pub record IsPartShape (part : PartStarts) : Type 0 where
   pub few_owned : length part.owned ≤ 1000000
   pub few_mirrors : length part.mirrors ≤ 1000000
-  pub owned : AllByRecursion (λ start. start < NOTHING) part.owned
-  pub mirrors : AllByRecursion (λ start. start < NOTHING) part.mirrors
 
 -- as many parts as there may be workers, and each is one
 pub record IsShape (shape : Starts) : Type 0 where

@@ -4,7 +4,7 @@ use value_order::Order;
 
 /// What the snapshots of a job have in common: the order of its values, and where they start. A
 /// call that takes a shape asks for at most 64 parts with at most 1,000,000 owned vertices and
-/// 1,000,000 mirrors each, and for start values below `NOTHING`.
+/// 1,000,000 mirrors each.
 #[derive(Drop)]
 pub struct Shape {
     pub order: Order,
