@@ -5,11 +5,12 @@
 //! that a piece cut.
 //!
 //! What the words of one line say is read without the others (module `statement`); which lines repeat another, or are
-//! too many, stands in module `gathered`, above a set of vertex numbers (`number_set`) and the labels beside them
-//! (`labels`).
+//! too many, stands in module `gathered`, above a set of vertex numbers (`number_set`, over `flag_set`) and the
+//! labels beside them (`labels`).
 #![tactic(auto)]
 
 mod fault;
+mod flag_set;
 mod gathered;
 mod labels;
 mod laws;

@@ -1,3 +1,4 @@
+use crate::number_set::NumberSet;
 use crate::{LineReader, TextFault, Why};
 use grape_port::NoMemory;
 use graph_core::{Cut, Edge, Job, Policy, Query};
@@ -188,7 +189,7 @@ struct Wanted {
     edges: &'static [(u32, u32, u32)],
 }
 
-fn job_table() -> [(&'static [u8], Wanted); 9] {
+fn job_table() -> [(&'static [u8], Wanted); 8] {
     let plain = Wanted {
         query: Asked::Dist(0),
         fragments: 4,
@@ -197,10 +198,6 @@ fn job_table() -> [(&'static [u8], Wanted); 9] {
         edges: &[(0, 1, 1), (0, 2, 1), (1, 0, 1)],
     };
     [
-        (
-            b"# Directed graph\r\n# FromNodeId\tToNodeId\r\nquery dist 0\r\n0\t11342\r\n \t\r\n0\t824020\r\n11342\t0",
-            plain,
-        ),
         (
             b"# Directed graph\r\n# FromNodeId\tToNodeId\r\nquery reach 0\r\n0\t11342\r\n0\t824020\r\n11342\t0",
             Wanted {
@@ -228,7 +225,7 @@ fn job_table() -> [(&'static [u8], Wanted); 9] {
             },
         ),
         (
-            b"1 1 0\n% 7 7\n2  1\t4294967295 \n1 2 9\n\nquery dist 2\n1 2 4\n1 2 9\n",
+            b"1 1 0\n \t\r\n% 7 7\n2  1\t4294967295 \n1 2 9\n\nquery dist 2\n1 2 4\n1 2 9\n",
             Wanted {
                 query: Asked::Dist(2),
                 vertices: &[(1, 0), (2, 0)],
@@ -328,6 +325,32 @@ fn jobs(rt: HostRuntime) -> Result<(), Fail> {
             check_job(&rt, rt.alloc(), &job, &want)?;
         }
     }
+    Ok(())
+}
+
+#[test]
+fn number_sets(rt: HostRuntime) -> Result<(), Fail> {
+    let mut set = NumberSet::new(rt.alloc());
+    for (number, is_new) in [
+        (16_777_216, true),
+        (5, true),
+        (4_294_967_295, true),
+        (5, false),
+        (0, true),
+        (16_777_217, true),
+        (16_777_216, false),
+    ] {
+        assert_eq!(rt; set.contains(number), !is_new);
+        assert_eq!(rt; set.insert(number), Ok(is_new));
+        assert!(rt; set.contains(number));
+    }
+    for number in [1, 4, 6, 16_777_215, 16_777_218, 4_294_967_294] {
+        assert!(rt; !set.contains(number));
+    }
+    assert_eq!(rt; set.len(), 5);
+    let sorted = set.sorted(rt.alloc())?;
+    let want: [u32; 5] = [0, 5, 16_777_216, 16_777_217, 4_294_967_295];
+    assert_eq!(rt; sorted.as_slice(), want.as_slice());
     Ok(())
 }
 
