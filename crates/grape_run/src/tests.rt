@@ -17,7 +17,7 @@ fn bad(line: u64, why: Why) -> Status {
     Status::BadInput { line, why }
 }
 
-fn answer_table() -> [(&'static [u8], &'static [u8]); 7] {
+fn answer_table() -> [(&'static [u8], &'static [u8]); 9] {
     [
         (detour(), b"answer dist 3\n1 0\n2 5\n3 6\nend\n"),
         (
@@ -41,10 +41,53 @@ fn answer_table() -> [(&'static [u8], &'static [u8]); 7] {
             b"answer dist 2\n5 3\n6 0\nend\n",
         ),
         (b"query dist 3\n3 3 7\n", b"answer dist 1\n3 0\nend\n"),
+        (
+            b"query reach 1\nfragments 64\ncut range\n1 2\n",
+            b"answer reach 2\n1 yes\n2 yes\nend\n",
+        ),
+        (
+            b"# Directed graph\r\n# FromNodeId\tToNodeId\r\nquery reach 0\r\n0\t11342\r\n0\t824020\r\n11342\t0",
+            b"answer reach 3\n0 yes\n11342 yes\n824020 yes\nend\n",
+        ),
     ]
 }
 
-fn bad_table() -> [(&'static [u8], Status, &'static [u8]); 14] {
+fn settings_table() -> [&'static [u8]; 7] {
+    [
+        b"",
+        b"fragments 1\ncut range\n",
+        b"fragments 1\ncut hash\n",
+        b"fragments 2\ncut range\n",
+        b"fragments 2\ncut hash\n",
+        b"fragments 64\ncut range\n",
+        b"fragments 64\ncut hash\n",
+    ]
+}
+
+fn cut_table() -> [(&'static [u8], &'static [u8]); 6] {
+    [
+        (b"query dist 7\nv 7 0\n", b"answer dist 1\n7 0\nend\n"),
+        (
+            b"query dist 1\nv 1\n2 3 0\n3 2 0\n",
+            b"answer dist 3\n1 0\n2 far\n3 far\nend\n",
+        ),
+        (
+            b"query dist 1\n1 2 9\n1 2 4\n1 1 0\n2 2 7\n",
+            b"answer dist 2\n1 0\n2 4\nend\n",
+        ),
+        (b"query label\n", b"answer label 0\nend\n"),
+        (
+            b"query label\n1 2\n2 3\nv 4\n5 6\n6 1\n",
+            b"answer label 6\n1 1\n2 1\n3 1\n4 4\n5 1\n6 1\nend\n",
+        ),
+        (
+            b"query reach 2\n1 2\n2 5\n5 7\n",
+            b"answer reach 4\n1 no\n2 yes\n5 yes\n7 yes\nend\n",
+        ),
+    ]
+}
+
+fn bad_table() -> [(&'static [u8], Status, &'static [u8]); 19] {
     [
         (
             b"query dist 0\n0 4294967296\n",
@@ -107,6 +150,31 @@ fn bad_table() -> [(&'static [u8], Status, &'static [u8]); 14] {
             b"query dist 1\n1 2\n1 -2\n",
             bad(3, Why::Number),
             b"grape: input line 3: number\n",
+        ),
+        (
+            b"query reach 9\n1 2\n",
+            bad(3, Why::NoSource),
+            b"grape: input line 3: no-source\n",
+        ),
+        (
+            b"fragments 65\n",
+            bad(1, Why::Range),
+            b"grape: input line 1: range\n",
+        ),
+        (
+            b"fragments 2\nfragments 2\n",
+            bad(2, Why::Twice),
+            b"grape: input line 2: twice\n",
+        ),
+        (
+            b"v 3\nv 3\n",
+            bad(2, Why::Twice),
+            b"grape: input line 2: twice\n",
+        ),
+        (
+            b"query dist 1\ncut foo\n",
+            bad(2, Why::Word),
+            b"grape: input line 2: word\n",
         ),
     ]
 }
@@ -183,6 +251,29 @@ fn answers(rt: HostRuntime) -> Result<(), Fail> {
         assert_eq!(rt; at_once.status, Status::Done, "of {text:?}");
         assert_eq!(rt; at_once.out.bytes(), want, "of {text:?}");
         assert!(rt; at_once.note.bytes().is_empty());
+    }
+    Ok(())
+}
+
+/// A text with lines put before it.
+fn joined(alloc: Global, front: &[u8], text: &[u8]) -> Result<Vec<u8>, NoMemory> {
+    let mut whole = Vec::new(alloc);
+    whole.extend_from_slice(front)?;
+    whole.extend_from_slice(text)?;
+    Ok(whole)
+}
+
+/// However the graph is cut, the answer is the same.
+#[test]
+fn answers_on_fragments(rt: HostRuntime) -> Result<(), Fail> {
+    for settings in settings_table() {
+        for (text, want) in cut_table() {
+            let whole = joined(rt.alloc(), settings, text)?;
+            let run = run_of(rt.alloc(), "run", &whole, 100, [0, 0, 0])?;
+            assert_eq!(rt; run.status, Status::Done, "of {whole:?}");
+            assert_eq!(rt; run.out.bytes(), want, "of {whole:?}");
+            assert!(rt; run.note.bytes().is_empty());
+        }
     }
     Ok(())
 }
