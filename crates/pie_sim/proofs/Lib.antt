@@ -1,0 +1,5 @@
+pub mod Bits
+pub mod Targets
+pub mod Steps
+pub mod Mirrors
+pub mod Solved

@@ -1,0 +1,3 @@
+pub mod SimJobs
+pub mod Falling
+pub mod Laws
