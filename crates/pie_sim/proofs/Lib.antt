@@ -3,3 +3,5 @@ pub mod Targets
 pub mod Steps
 pub mod Mirrors
 pub mod Solved
+pub mod Starting
+pub mod Distinct

@@ -1,5 +1,5 @@
 -- Supported values of a fragment are the local solution of a simulation.
-use Rattle.std.proofs.Common.{◌≡◌, ℕ, zero, suc, ◌<◌, ◌≤◌, inl, inr, Bool, true, false, ◌==◌, ◌&&◌, not, if◌then◌else◌, refl, sym, ◌∙◌, ap, subst, arith, List, [], ◌∷◌, ◌++◌, length, filter, take, drop, slice_index, slice_index_or, Contains, IsTrue}
+use Rattle.std.proofs.Common.{◌≡◌, ℕ, zero, suc, ◌<◌, ◌^◌, ◌≤◌, inl, inr, Bool, true, false, ◌==◌, ◌&&◌, not, if◌then◌else◌, refl, sym, ◌∙◌, ap, subst, arith, List, [], ◌∷◌, ◌++◌, length, filter, take, drop, slice_index, slice_index_or, Contains, IsTrue}
 use Rattle.std.specs.List.{range_with_len, list_any, list_all}
 use Rattle.std.proofs.lemmas.Bool.{and_parts, and_from, or_cases, or_left, or_right, eqb-true, eq-eqb, cases_Bool, both_ways, not-true, not_from_false}
 use Rattle.std.proofs.lemmas.List.FromFn.{length-range_with_len}
@@ -189,21 +189,26 @@ lowered-below (suc n) (x ∷ xs) hand (suc q) = lowered-below n xs hand q
 abbrev asking : Job → Query → Job
 asking job q = record { graph = job.graph; query = q; settings = job.settings }
 
+-- a fragment of a job has no more places than two for each vertex
+pub few-places : (job : Job) → IsJob job → (part : FragmentLists) → part ≡ fragment_of job part.number → place_count part < 2 ^ 32
+few-places job is_job part is_part =
+    let i = part.number in
+    let count = count_of job.graph in
+    let same = ap (λ (p : FragmentLists). place_count p) is_part in
+    let owned = few-pass (λ v. owner job v == i) (range_with_len 0 count) in
+    let mirrors = few-pass (λ v. not (owner job v == i) && is_read_in job i v) (range_with_len 0 count) in
+    let all = length-range_with_len 0 count in
+    let few = is_job.graph.few_vertices in
+    omega (arith, same, owned, mirrors, all, few)
+
 module _ (targets : List ℕ) (job : Job) (is_for : IsSimJob targets job) (part : FragmentLists) (local : LocalValues) (n : ℕ) (ready : IsReadyFor (equations_of job) job part local n) where
   pub ready-fits : FitsPart part local
   ready-fits =
-      let i = part.number in
-      let count = count_of job.graph in
-      let same = ap (λ (p : FragmentLists). place_count p) ready.is_part in
-      let owned = few-pass (λ v. owner job v == i) (range_with_len 0 count) in
-      let mirrors = few-pass (λ v. not (owner job v == i) && is_read_in job i v) (range_with_len 0 count) in
-      let all = length-range_with_len 0 count in
-      let few = is_for.is_job.graph.few_vertices in
       let values = length_all_zip (Below (equations_of job).order) local.values (starts_of (equations_of job) (part.owned ++ part.mirrors)) ready.below_start in
       let starts = length-map (part.owned ++ part.mirrors) (equations_of job).start in
       let places = length-append part.owned part.mirrors in
       record {
-        few = omega (arith, same, owned, mirrors, all, few);
+        few = few-places job is_for.is_job part ready.is_part;
         places = omega (arith, values, starts, places);
         owned = ready.owned;
       }

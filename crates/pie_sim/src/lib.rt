@@ -14,3 +14,14 @@ mod sim;
 
 pub use laws::sim_equations;
 pub use sim::Sim;
+
+#[cfg(test)]
+mod compared;
+#[cfg(test)]
+mod graphs;
+#[cfg(test)]
+mod patterns;
+#[cfg(test)]
+mod plain;
+#[cfg(test)]
+mod tests;
