@@ -11,9 +11,11 @@
 mod laws;
 mod lowering;
 mod sim;
+mod worked;
 
 pub use laws::sim_equations;
 pub use sim::Sim;
+pub use worked::ring_values;
 
 #[cfg(test)]
 mod compared;

@@ -100,7 +100,8 @@ fn takes_all_64_nodes(rt: HostRuntime) -> Result<(), Fail> {
 #[test]
 fn agrees_with_plain_evaluation(rt: HostRuntime) -> Result<(), Fail> {
     let nodes = [node(0, 1), node(1, 2), node(2, 3), node(3, 1), node(4, 2)];
-    let links = [
+    let few = [link(0, 1), link(1, 0), link(3, 4), link(4, 3)];
+    let many = [
         link(0, 1),
         link(1, 0),
         link(0, 2),
@@ -108,13 +109,42 @@ fn agrees_with_plain_evaluation(rt: HostRuntime) -> Result<(), Fail> {
         link(4, 4),
         link(4, 3),
     ];
-    let asked = (nodes.as_slice(), links.as_slice());
+    let asks_few = (nodes.as_slice(), few.as_slice());
+    let asks_many = (nodes.as_slice(), many.as_slice());
     for number in 1..13 {
         for fragments in 1..4 {
             let by_range = generated(rt.alloc(), number)?;
-            compare_all(&rt, rt.alloc(), by_range, asked, fragments, Cut::Range, 22)?;
+            compare_all(
+                &rt,
+                rt.alloc(),
+                by_range,
+                asks_few,
+                fragments,
+                Cut::Range,
+                22,
+            )?;
             let by_hash = generated(rt.alloc(), number)?;
-            compare_all(&rt, rt.alloc(), by_hash, asked, fragments, Cut::Hash, 9)?;
+            compare_all(
+                &rt,
+                rt.alloc(),
+                by_hash,
+                asks_many,
+                fragments,
+                Cut::Hash,
+                25,
+            )?;
+            let by_range = generated(rt.alloc(), number)?;
+            compare_all(
+                &rt,
+                rt.alloc(),
+                by_range,
+                asks_many,
+                fragments,
+                Cut::Range,
+                7,
+            )?;
+            let by_hash = generated(rt.alloc(), number)?;
+            compare_all(&rt, rt.alloc(), by_hash, asks_few, fragments, Cut::Hash, 9)?;
         }
     }
     Ok(())
