@@ -1,0 +1,7 @@
+pub mod Bits
+pub mod Targets
+pub mod Steps
+pub mod Mirrors
+pub mod Solved
+pub mod Starting
+pub mod Distinct

@@ -1,0 +1,4 @@
+pub mod SimJobs
+pub mod Falling
+pub mod Laws
+pub mod Worked
