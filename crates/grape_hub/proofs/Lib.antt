@@ -20,3 +20,4 @@ pub mod Nexts
 pub mod Finished
 pub mod Calm
 pub mod Lanes
+pub mod Programs

@@ -1,6 +1,7 @@
 -- The laws of hubs, as statements.
-use Rattle.std.specs.Prelude.{◌≡◌, ℕ, Bool, ◌<◌, ◌≤◌, ◌+◌, ◌*◌, false, IsTrue, None, [], length, slice_index}
-use Rattle.graph_core.specs.Equations.{Assignment, IsGreatest}
+use Rattle.std.specs.Prelude.{◌≡◌, ℕ, Bool, ◌<◌, ◌≤◌, ◌+◌, ◌*◌, false, IsTrue, List, None, [], length, slice_index}
+use Rattle.graph_core.specs.declared.job.Job.{Job}
+use Rattle.graph_core.specs.Equations.{Assignment, Equations, IsGreatest}
 use Rattle.graph_core.specs.Queries.{equations_of}
 use Rattle.graph_core.specs.Fragments.{IsOwnedAt, pieces_of, fragment_of}
 use Rattle.pie_core.specs.Locals.{LocalValues}
@@ -9,14 +10,17 @@ use Rattle.pie_core.specs.Evaluations.{MayEvaluate}
 use Rattle.grape_event.specs.declared.event.Event.{Event}
 use Rattle.grape_event.specs.declared.event.Event.TheVariants.{Take, Give}
 use Rattle.grape_event.specs.Events.{is_take}
-use Rattle.base_machine.specs.Machine.{worker_at, is_running}
-use Rattle.base_machine.specs.Fitness.{is_quiet}
+use Rattle.token_cut.specs.Parts.{SnapshotParts}
+use Rattle.base_machine.specs.Machine.{BaseState, BaseEvent, worker_at, is_running, system_with, base_state_of}
+use Rattle.base_machine.specs.Runs.{Runs}
+use Rattle.base_machine.specs.Fitness.{is_quiet, IsFit}
 use Rattle.base_machine.specs.Bounds.{bound_of}
+use Rattle.legal_journal.specs.BaseEvents.{base_of}
 use Rattle.legal_journal.specs.Legal.{has_work_out}
 use Rattle.grape_hub.specs.HubValues.{HubValues}
 use Rattle.grape_hub.specs.declared.work.Work.{Work}
 use Rattle.grape_hub.specs.Calls.{Appended, IsWork, IsReady, MayGive}
-use Rattle.grape_hub.specs.States.{machine, state_of, workers_of, IsHub}
+use Rattle.grape_hub.specs.States.{machine, beginning, state_of, workers_of, IsHub}
 use Rattle.grape_hub.specs.Choice.{choice_of}
 
 -- nobody is out
@@ -53,6 +57,16 @@ CalmAfterOther = (old new : HubValues) (e : Event) → IsHub old → IsCalm old 
 abbrev pub IdleIsQuiet : Type 0
 IdleIsQuiet =
     (h : HubValues) (lane : ℕ) → IsHub h → IsCalm h → lane < h.job.settings.lanes → choice_of (machine h) (state_of h) lane ≡ None → IsTrue (is_quiet (workers_of h))
+
+-- The Takes and Gives of a hub's journal are a run of the base machine, from the beginning to the hub's workers.
+abbrev pub HubsRun : Type 0
+HubsRun = (h : HubValues) → IsHub h → Runs (machine h) (base_state_of (beginning h)) (base_of (length (beginning h).parts) h.journal.events) (workers_of h)
+
+-- Whatever the order in which workers take and give: where a run of these equations from a fit start is quiet, the owners have the greatest solution.
+abbrev pub IsConfluent : Equations → Job → Type 0
+IsConfluent e job =
+    (g : Assignment) (start : SnapshotParts) (events : List BaseEvent) (ws : BaseState) → IsGreatest e g → IsFit (system_with e job) g (base_state_of start) →
+    Runs (system_with e job) (base_state_of start) events ws → IsTrue (is_quiet ws) → (i p v : ℕ) → IsOwnedAt (pieces_of job) i p v → slice_index (worker_at ws i).values p ≡ g v
 
 -- Where every worker rests and no mail waits, the owners have the greatest solution of the job's equations.
 abbrev pub QuietIsTheAnswer : Type 0

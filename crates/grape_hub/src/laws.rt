@@ -1,4 +1,8 @@
-ghost use Rattle.grape_hub.specs.Theorems.{WorksMayBeEvaluated, EvaluatedMayBeGiven, CalmIsFree, CalmAtBeginning, CalmAfterTurn, CalmAfterOther, IdleIsQuiet, QuietIsTheAnswer, JournalIsBounded};
+ghost use Rattle.graph_core.specs.declared.job.Job.{Job};
+ghost use Rattle.graph_core.specs.Graphs.{IsJob};
+ghost use Rattle.grape_hub.specs.Theorems.{WorksMayBeEvaluated, EvaluatedMayBeGiven, CalmIsFree, CalmAtBeginning, CalmAfterTurn, CalmAfterOther, IdleIsQuiet, HubsRun, IsConfluent, QuietIsTheAnswer, JournalIsBounded};
+
+use pie_core::Pie;
 
 /// A Work that is ready may be evaluated, and what was evaluated may be given back.
 pub fn works_go_round()
@@ -23,6 +27,17 @@ pub fn idle_is_quiet()
 /// which the workers went on.
 pub fn quiet_is_the_answer()
     ensures { QuietIsTheAnswer }
+{}
+
+/// The Takes and Gives of a hub's journal are a run of the base machine.
+pub fn hubs_run()
+    ensures { HubsRun }
+{}
+
+/// Every program that has the laws of `Pie` is confluent on every job that it is for, whatever the fragments, the start and
+/// the order of events.
+pub fn every_program_is_confluent<P: Pie>(program: &P)
+    ensures { (job : Job) → IsJob job → P.is_for program.now job → IsConfluent (P.equations program.now job) job }
 {}
 
 /// A hub's journal has at most so many events.

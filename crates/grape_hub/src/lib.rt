@@ -15,6 +15,7 @@ mod work;
 
 pub use hub::Hub;
 pub use laws::{
-    hubs_are_bounded, idle_is_quiet, quiet_is_the_answer, turns_are_calm, works_go_round,
+    every_program_is_confluent, hubs_are_bounded, hubs_run, idle_is_quiet, quiet_is_the_answer,
+    turns_are_calm, works_go_round,
 };
 pub use work::{Next, Work};
