@@ -45,7 +45,7 @@ pub(crate) fn settle<P: Pie>(
 
 /// One turn of the lane: the next event, and where it is a Take its evaluation and its Give. Says whether there was an
 /// event; where there was none, every worker rests and no mail waits.
-fn take_turn<P: Pie>(
+pub(crate) fn take_turn<P: Pie>(
     hub: &mut Hub<P>,
     fragments: &[Fragment],
     program: &P,

@@ -8,6 +8,8 @@
 #![tactic(auto)]
 
 mod answers;
+#[cfg(test)]
+mod bounded;
 mod engine;
 mod input;
 mod notes;
