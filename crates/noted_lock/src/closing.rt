@@ -39,7 +39,7 @@ impl<T: Noted> NotedLock<T> {
     pub fn close(self, seats: Vec<LockSeat>) -> T
         requires lock { All (λ s. seat_lock s ≡ lock_id self) seats.items }
         requires all { (k : ℕ) → k < lock_seats self → (s : LockSeat) × Contains seats.items s × (seat_number s ≡ k) }
-        ensures { All (λ s. T.note result (seat_number s) ≡ seat_note s) seats.items }
+        ensures notes { All (λ s. T.note result (seat_number s) ≡ seat_note s) seats.items }
     {
         let NotedLock { table } = self;
         let place = gather(&table.shared, seats);

@@ -35,7 +35,7 @@ fn take_turn<T: Noted>(
 impl<T: Noted> NotedLock<T> {
     /// Waits for the turn, and takes it with the value, which has the seat's note as it was.
     pub fn enter<'a, R: Wait>(&'a self, rt: &R, seat: LockSeat) -> Inside<'a, T>
-        requires { seat_lock seat ≡ lock_id self.now }
+        requires lock { seat_lock seat ≡ lock_id self.now }
         ensures same { (inside_lock result ≡ seat_lock seat) × (inside_number result ≡ seat_number seat) × (inside_count result ≡ seat_count seat) }
         ensures number { seat_number seat < seat_count seat }
         ensures note { T.note (inside_value result) (seat_number seat) ≡ seat_note seat }
@@ -86,7 +86,7 @@ impl<'a, T: Noted> Inside<'a, T> {
     /// Leaves the value in the lock and gives the turn back. The seat is the one that entered, and has
     /// the value's note of its number now. The notes of the other seats must be as they were at entry.
     pub fn leave(self) -> LockSeat
-        requires { (k : ℕ) → k < inside_count self → k ≢ inside_number self → T.note (inside_value self) k ≡ note_at_entry self k }
+        requires others { (k : ℕ) → k < inside_count self → k ≢ inside_number self → T.note (inside_value self) k ≡ note_at_entry self k }
         ensures same { (seat_lock result ≡ inside_lock self.entry) × (seat_number result ≡ inside_number self.entry) × (seat_count result ≡ inside_count self.entry) }
         ensures note { seat_note result ≡ T.note (inside_value self.entry) (inside_number self.entry) }
     {

@@ -9,5 +9,5 @@ use crate::rule::Noted;
 
 /// Whatever keeps the rule of the table meets the rule in words, which names the owner of no number.
 pub fn rule_in_words<T: Noted>()
-    ensures { (seats : ℕ) (s : State (Option T) View) → Kept T.note seats s → InWords T.note seats s }
+    ensures words { (seats : ℕ) (s : State (Option T) View) → Kept T.note seats s → InWords T.note seats s }
 {}
