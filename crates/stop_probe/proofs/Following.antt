@@ -1,7 +1,7 @@
 -- The probe of a journal follows it, and says what the table says.
-use Rattle.std.proofs.Common.{◌≡◌, ◌≢◌, ℕ, suc, ◌+◌, ◌<◌, Bool, true, false, not, ◌&&◌, ◌||◌, ◌==◌, nat_lt, cond, refl, sym, ◌∙◌, ap, subst, arith, List, [], ◌∷◌, ◌++◌, map, length, get_or, set, replicate, get_or-set_same, get_or-set_other, ext_get_or}
-use Rattle.std.specs.List.{list_any, list_all, range_with_len}
-use Rattle.std.proofs.lemmas.Bool.{or_left, or_from, eqb-true, eq-eqb, ne_eqb, ltb-true, false≢true}
+use Rattle.std.proofs.Common.{◌≡◌, ℕ, ◌<◌, Bool, true, false, not, ◌&&◌, ◌||◌, ◌==◌, nat_lt, cond, refl, sym, ◌∙◌, ap, subst, arith, List, [], ◌∷◌, ◌++◌, map, length, get_or, set, replicate, get_or-set_same, get_or-set_other, ext_get_or}
+use Rattle.std.specs.List.{list_any, list_all}
+use Rattle.std.proofs.lemmas.Bool.{or_left, eqb-true, eq-eqb, ltb-true, false≢true}
 use Rattle.std.proofs.lemmas.List.Sums.{take_while-cons}
 use Rattle.std.proofs.lemmas.List.Folds.{list_all-map}
 use Rattle.std.proofs.lemmas.List.FromFn.{get_or-map-range_with_len, length-range_with_len}
@@ -12,9 +12,9 @@ use Rattle.grape_event.specs.declared.event.Event.TheVariants.{Take, Give, Stret
 use Rattle.grape_event.specs.Events.{is_take_of}
 use Rattle.base_machine.specs.Machine.{System, worker_at, rests, batch_waits}
 use Rattle.legal_journal.specs.Past
-use Rattle.legal_journal.specs.Legal.{State, worker_count, rests_without_mail, row_admits}
+use Rattle.legal_journal.specs.Legal.{State, worker_count, rests_without_mail}
 use Rattle.stop_probe.specs.ProbeValues.{ProbeValues}
-use Rattle.stop_probe.specs.Probe.{is_open, all_of, took_since_ask, has_answered, may_flag, may_ask, may_answer, may_end, new_probe, after_flag, after_ask, after_ack, after_nack, after_take}
+use Rattle.stop_probe.specs.Probe.{is_open, all_of, took_since_ask, has_answered, new_probe, after_flag, after_ask, after_ack, after_nack, after_take}
 use Rattle.stop_probe.specs.Journals.{probe_of, probe_at, after_event, FollowsEvents, MeetsTheTable, AcksFollowNoTake}
 
 -- ---- a list of bits, one a worker

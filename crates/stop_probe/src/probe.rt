@@ -127,8 +127,9 @@ impl Probe {
         requires { worker < self.old.workers }
         ensures { self.new ≡ after_take worker self.old }
     {
-        self.took[worker as usize] = true;
-        self.flags[worker as usize] = false;
+        let place = worker as usize;
+        self.took[place] = true;
+        self.flags[place] = false;
     }
 
     /// Whether there was an Ask, no Nack since, and some worker has not answered it.
