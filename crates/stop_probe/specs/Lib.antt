@@ -1,0 +1,3 @@
+pub mod ProbeValues
+pub mod Probe
+pub mod Journals

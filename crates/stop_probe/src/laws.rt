@@ -1,0 +1,14 @@
+ghost use Rattle.base_machine.specs.Machine.{System};
+ghost use Rattle.legal_journal.specs.Legal.{State};
+ghost use Rattle.stop_probe.specs.Journals.{FollowsEvents, MeetsTheTable, AcksFollowNoTake};
+
+/// The probe that a journal makes follows it event by event, and says what the table of events says.
+pub fn probe_follows_the_journal()
+    ensures events { FollowsEvents }
+    ensures rows { (sys : System) (s : State) → MeetsTheTable sys s }
+{}
+
+/// Where an Ack is allowed, its worker took nothing since the Ask.
+pub fn acks_follow_no_take()
+    ensures { AcksFollowNoTake }
+{}
