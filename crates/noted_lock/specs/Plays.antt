@@ -1,4 +1,4 @@
--- What each step of the lock tells, and what a contract sees of a seat.
+-- What each step of the lock tells of the seat that makes it, m before the step and m' after it.
 use Rattle.std.specs.Prelude.{◌≡◌, ◌≢◌, ℕ, ◌+◌, ◌<◌, List, [], ◌∷◌, ◌++◌, slice_set, Option, Some}
 use Rattle.atomic_table.specs.Table.{Me, Step}
 use Rattle.noted_lock.specs.declared.view.Claim.{Claim}
@@ -30,9 +30,11 @@ module _ {T : Type 0} where
   abbrev pub gave : Step (Option T) → Me (Option T) View → ℕ → Me (Option T) View → Type 0
   gave st m r m' = (m'.1 ≡ []) × (m'.0 ≡ outside m.0.seats (first_claim m.0.claims))
 
+-- the seat that makes the lock, with one more seat made
 abbrev pub made_one : View → View
 made_one v = maker v.seats (first_claim v.claims) (v.made + 1) v.notes
 
+-- the seat that is split off it, whose number is how many were made before
 abbrev pub next_seat : View → View
 next_seat v = outside v.seats (claim v.made (first_claim v.claims).note)
 
