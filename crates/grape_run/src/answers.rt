@@ -14,6 +14,7 @@ use graph_core::{Fragment, Job, Query};
 use pie_core::Local;
 use pie_dist::Dist;
 use pie_flood::{Labels, Reach};
+use pie_sim::Sim;
 use std::alloc::Global;
 
 /// The answer of a job, evaluated on its fragments.
@@ -39,6 +40,10 @@ fn locals_of(alloc: Global, job: &Job, fragments: &[Fragment]) -> Result<Vec<Loc
         Query::Dist(_) => settle(alloc, job, fragments, &Dist::new(), Dist::new()),
         Query::Label => settle(alloc, job, fragments, &Labels::new(), Labels::new()),
         Query::Reach(_) => settle(alloc, job, fragments, &Reach::new(), Reach::new()),
-        Query::Sim(_) => unreachable!(),
+        Query::Sim(pattern) => {
+            let program = Sim::new(alloc, pattern)?;
+            let kept = Sim::new(alloc, pattern)?;
+            settle(alloc, job, fragments, &program, kept)
+        }
     }
 }

@@ -64,7 +64,7 @@ fn settings_table() -> [&'static [u8]; 7] {
     ]
 }
 
-fn cut_table() -> [(&'static [u8], &'static [u8]); 6] {
+fn cut_table() -> [(&'static [u8], &'static [u8]); 8] {
     [
         (b"query dist 7\nv 7 0\n", b"answer dist 1\n7 0\nend\n"),
         (
@@ -83,6 +83,14 @@ fn cut_table() -> [(&'static [u8], &'static [u8]); 6] {
         (
             b"query reach 2\n1 2\n2 5\n5 7\n",
             b"answer reach 4\n1 no\n2 yes\n5 yes\n7 yes\nend\n",
+        ),
+        (
+            b"query sim\nnode 0 1\nnode 1 2\nlink 0 1\nlink 1 0\nv 1 1\nv 2 2\nv 3 1\nv 4 2\n1 2\n2 3\n3 4\n",
+            b"answer sim 4\n1 -\n2 -\n3 -\n4 -\nend\n",
+        ),
+        (
+            b"query sim\nnode 0 1\nnode 1 2\nlink 0 1\nlink 1 0\nv 1 1\nv 2 2\nv 3 1\nv 4 2\n1 2\n2 3\n3 4\n4 1\n",
+            b"answer sim 4\n1 0\n2 1\n3 0\n4 1\nend\n",
         ),
     ]
 }

@@ -8,20 +8,23 @@ use Rattle.std.proofs.lemmas.List.Elements.{filter_map-append}
 use Rattle.std.proofs.lemmas.List.Folds.{list_any-append}
 use Rattle.std.proofs.lemmas.List.Sums.{sum_by_push}
 use Rattle.graph_core.specs.declared.edge.Edge.{Edge}
+use Rattle.graph_core.specs.declared.pattern.PatternNode.{PatternNode}
+use Rattle.graph_core.specs.declared.pattern.PatternLink.{PatternLink}
 use Rattle.graph_core.specs.declared.settings.Cut.{Cut}
-use Rattle.graph_core.specs.Graphs.{MAX_VERTICES, MAX_EDGES}
+use Rattle.graph_core.specs.PatternGraph.{PatternGraph}
+use Rattle.graph_core.specs.Graphs.{MAX_VERTICES, MAX_EDGES, MAX_LINKS}
 use Rattle.graph_text.specs.declared.fault.Why.TheVariants as causes
 use Rattle.graph_text.specs.declared.fault.TextFault.{TextFault}
 use Rattle.graph_text.specs.declared.fault.TextFault.TheVariants as fault
 use Rattle.graph_text.specs.declared.statement.Question.{Question}
 use Rattle.graph_text.specs.declared.statement.Statement.{Statement}
-use Rattle.graph_text.specs.declared.statement.Statement.TheVariants.{Nothing, Joins, Vertex, Asks, Fragments, Cuts}
+use Rattle.graph_text.specs.declared.statement.Statement.TheVariants.{Nothing, Joins, Vertex, Asks, Node, Link, Fragments, Cuts}
 use Rattle.graph_text.specs.NumberSets.{insert_number, is_among}
 use Rattle.graph_text.specs.ReaderState.{GatheredState}
-use Rattle.graph_text.specs.Input.{bad, numbers_with, vertex_numbers, repeats, is_edge, are_too_many, cause_among, first_of, question_in, fragments_in, cut_in, edge_in, missing_source}
+use Rattle.graph_text.specs.Input.{bad, numbers_with, vertex_numbers, repeats, is_edge, is_link, are_too_many, cause_among, first_of, question_in, fragments_in, cut_in, edge_in, node_in, link_in, pattern_of, has_node}
 use Rattle.graph_text.specs.Gathering.{vertex_in, Holds}
 use Rattle.graph_text.specs.Reader.{Answers}
-use Rattle.graph_text.proofs.Jobs.{count_edges, any-insert}
+use Rattle.graph_text.proofs.Jobs.{IsFew, few, count_edges, count_links, any-insert}
 use Rattle.graph_text.proofs.Numbers.{numbers-push}
 
 -- Which statement repeats another.
@@ -52,6 +55,17 @@ pub joins_again : (ss : List Statement) (edge : Edge) → list_any (repeats (Joi
 joins_again [] edge = refl
 joins_again (s ∷ ss) edge = joins_again ss edge
 
+pub was_named : (ss : List Statement) (node : PatternNode) → list_any (repeats (Node node)) ss ≡ has_node (filter_map node_in ss) node.number
+was_named [] node = refl
+was_named (Node other ∷ ss) node = ap (λ b. b || list_any (repeats (Node node)) ss) (flipped node.number other.number) ∙ ap (λ b. (other.number == node.number) || b) (was_named ss node) where
+  flipped : (a b : ℕ) → (a == b) ≡ (b == a)
+  flipped a b = grind (arith, nat_tests)
+was_named (s ∷ ss) node = was_named ss node
+
+pub links_again : (ss : List Statement) (link : PatternLink) → list_any (repeats (Link link)) ss ≡ false
+links_again [] link = refl
+links_again (s ∷ ss) link = links_again ss link
+
 pub nothing_again : (ss : List Statement) → list_any (repeats Nothing) ss ≡ false
 nothing_again [] = refl
 nothing_again (s ∷ ss) = nothing_again ss
@@ -67,47 +81,74 @@ too_many ss s h k = rw (h, k) refl
 pub no_cause : (ss : List Statement) (s : Statement) → list_any (repeats s) ss ≡ false → are_too_many (ss ++ s ∷ []) ≡ false → cause_among ss (Ok s) ≡ None
 no_cause ss s h k = rw (h, k) refl
 
--- How many edges and vertices there are.
+-- How many edges, vertices and links there are.
 
-count-push : (ss : List Statement) (s : Statement) → count_by is_edge (ss ++ s ∷ []) ≡ count_by is_edge ss + cond (is_edge s) 1 0
-count-push ss s = sum_by_push (λ x. cond (is_edge x) 1 0) ss s
+edges-push : (ss : List Statement) (s : Statement) → count_by is_edge (ss ++ s ∷ []) ≡ count_by is_edge ss + cond (is_edge s) 1 0
+edges-push ss s = sum_by_push (λ x. cond (is_edge x) 1 0) ss s
 
-over_left : (m n a b : ℕ) → m < a → (nat_lt m a || nat_lt n b) ≡ true
-over_left m n a b h = grind (arith, nat_tests, h)
+links-push : (ss : List Statement) (s : Statement) → count_by is_link (ss ++ s ∷ []) ≡ count_by is_link ss + cond (is_link s) 1 0
+links-push ss s = sum_by_push (λ x. cond (is_link x) 1 0) ss s
 
-over_right : (m n a b : ℕ) → n < b → (nat_lt m a || nat_lt n b) ≡ true
-over_right m n a b h = grind (arith, nat_tests, h)
+over_first : (m n o a b c : ℕ) → m < a → (nat_lt m a || nat_lt n b || nat_lt o c) ≡ true
+over_first m n o a b c h = grind (arith, nat_tests, h)
 
-within : (m n a b : ℕ) → a ≤ m → b ≤ n → (nat_lt m a || nat_lt n b) ≡ false
-within m n a b h k = grind (arith, nat_tests, h, k)
+over_second : (m n o a b c : ℕ) → n < b → (nat_lt m a || nat_lt n b || nat_lt o c) ≡ true
+over_second m n o a b c h = grind (arith, nat_tests, h)
 
-within_left : (m n a b : ℕ) → (nat_lt m a || nat_lt n b) ≡ false → a ≤ m
-within_left m n a b h = grind (arith, nat_tests, h)
+over_third : (m n o a b c : ℕ) → o < c → (nat_lt m a || nat_lt n b || nat_lt o c) ≡ true
+over_third m n o a b c h = grind (arith, nat_tests, h)
+
+within : (m n o a b c : ℕ) → a ≤ m → b ≤ n → c ≤ o → (nat_lt m a || nat_lt n b || nat_lt o c) ≡ false
+within m n o a b c h k l = grind (arith, nat_tests, h, k, l)
+
+not_over : (ss : List Statement) → IsFew ss → are_too_many ss ≡ false
+not_over ss f = within MAX_EDGES MAX_VERTICES MAX_LINKS (count_by is_edge ss) (length (vertex_numbers ss)) (count_by is_link ss) f.edges f.vertices f.links
 
 pub many_edges : (ss : List Statement) (edge : Edge) → MAX_EDGES ≤ length (filter_map edge_in ss) → are_too_many (ss ++ Joins edge ∷ []) ≡ true
-many_edges ss edge h = over_left MAX_EDGES MAX_VERTICES (count_by is_edge (ss ++ Joins edge ∷ [])) (length (vertex_numbers (ss ++ Joins edge ∷ []))) (omega (arith, count-push ss (Joins edge), count_edges ss, h))
+many_edges ss edge h =
+    let after : List Statement = ss ++ Joins edge ∷ []
+    in over_first MAX_EDGES MAX_VERTICES MAX_LINKS (count_by is_edge after) (length (vertex_numbers after)) (count_by is_link after) (omega (arith, edges-push ss (Joins edge), count_edges ss, h))
+
+pub many_links : (ss : List Statement) (link : PatternLink) → MAX_LINKS ≤ length (filter_map link_in ss) → are_too_many (ss ++ Link link ∷ []) ≡ true
+many_links ss link h =
+    let after : List Statement = ss ++ Link link ∷ []
+    in over_third MAX_EDGES MAX_VERTICES MAX_LINKS (count_by is_edge after) (length (vertex_numbers after)) (count_by is_link after) (omega (arith, links-push ss (Link link), count_links ss, h))
 
 pub many_vertices : (ss : List Statement) (s : Statement) → MAX_VERTICES < length (vertex_numbers (ss ++ s ∷ [])) → are_too_many (ss ++ s ∷ []) ≡ true
-many_vertices ss s h = over_right MAX_EDGES MAX_VERTICES (count_by is_edge (ss ++ s ∷ [])) (length (vertex_numbers (ss ++ s ∷ []))) h
+many_vertices ss s h =
+    let after : List Statement = ss ++ s ∷ []
+    in over_second MAX_EDGES MAX_VERTICES MAX_LINKS (count_by is_edge after) (length (vertex_numbers after)) (count_by is_link after) h
 
-pub few_enough : (ss : List Statement) (edge : Edge) → length (filter_map edge_in ss) < MAX_EDGES → length (vertex_numbers (ss ++ Joins edge ∷ [])) ≤ MAX_VERTICES → are_too_many (ss ++ Joins edge ∷ []) ≡ false
-few_enough ss edge h k = within MAX_EDGES MAX_VERTICES (count_by is_edge (ss ++ Joins edge ∷ [])) (length (vertex_numbers (ss ++ Joins edge ∷ []))) (omega (arith, count-push ss (Joins edge), count_edges ss, h)) k
+-- an edge more, and few vertices still
+pub few_enough : (ss : List Statement) (edge : Edge) → are_too_many ss ≡ false → length (filter_map edge_in ss) < MAX_EDGES → length (vertex_numbers (ss ++ Joins edge ∷ [])) ≤ MAX_VERTICES → are_too_many (ss ++ Joins edge ∷ []) ≡ false
+few_enough ss edge before h k = not_over (ss ++ Joins edge ∷ []) (record {
+  edges = omega (arith, edges-push ss (Joins edge), count_edges ss, h);
+  vertices = k;
+  links = omega (arith, links-push ss (Joins edge), (few ss before).links);
+})
 
-same_count : (ss : List Statement) (s : Statement) → is_edge s ≡ false → count_by is_edge (ss ++ s ∷ []) ≡ count_by is_edge ss
-same_count ss s e = count-push ss s ∙ ap (λ b. count_by is_edge ss + cond b 1 0) e ∙ omega arith
+-- neither an edge nor a link more, and few vertices still
+pub few_vertices : (ss : List Statement) (s : Statement) → is_edge s ≡ false → is_link s ≡ false → are_too_many ss ≡ false → length (vertex_numbers (ss ++ s ∷ [])) ≤ MAX_VERTICES → are_too_many (ss ++ s ∷ []) ≡ false
+few_vertices ss s e l before h = not_over (ss ++ s ∷ []) (record {
+  edges = omega (arith, edges-push ss s ∙ ap (λ b. count_by is_edge ss + cond b 1 0) e, (few ss before).edges);
+  vertices = h;
+  links = omega (arith, links-push ss s ∙ ap (λ b. count_by is_link ss + cond b 1 0) l, (few ss before).links);
+})
 
--- no edge more, and few vertices still
-pub few_vertices : (ss : List Statement) (s : Statement) → is_edge s ≡ false → are_too_many ss ≡ false → length (vertex_numbers (ss ++ s ∷ [])) ≤ MAX_VERTICES → are_too_many (ss ++ s ∷ []) ≡ false
-few_vertices ss s e few h =
-    let edges : count_by is_edge ss ≤ MAX_EDGES = within_left MAX_EDGES MAX_VERTICES (count_by is_edge ss) (length (vertex_numbers ss)) few
-    in within MAX_EDGES MAX_VERTICES (count_by is_edge (ss ++ s ∷ [])) (length (vertex_numbers (ss ++ s ∷ []))) (omega (arith, edges, same_count ss s e)) h
+same_vertices : (ss : List Statement) (s : Statement) → numbers_with s (vertex_numbers ss) ≡ vertex_numbers ss → are_too_many ss ≡ false → length (vertex_numbers (ss ++ s ∷ [])) ≤ MAX_VERTICES
+same_vertices ss s h before = omega (arith, ap length (numbers-push ss s ∙ h), (few ss before).vertices)
 
--- neither an edge nor a vertex more
-pub few_still : (ss : List Statement) (s : Statement) → is_edge s ≡ false → numbers_with s (vertex_numbers ss) ≡ vertex_numbers ss → are_too_many ss ≡ false → are_too_many (ss ++ s ∷ []) ≡ false
-few_still ss s e h few =
-    ap (λ n. nat_lt MAX_EDGES n || nat_lt MAX_VERTICES (length (vertex_numbers (ss ++ s ∷ [])))) (same_count ss s e)
-    ∙ ap (λ ns. nat_lt MAX_EDGES (count_by is_edge ss) || nat_lt MAX_VERTICES (length ns)) (numbers-push ss s ∙ h)
-    ∙ few
+-- neither an edge nor a link nor a vertex more
+pub few_still : (ss : List Statement) (s : Statement) → is_edge s ≡ false → is_link s ≡ false → numbers_with s (vertex_numbers ss) ≡ vertex_numbers ss → are_too_many ss ≡ false → are_too_many (ss ++ s ∷ []) ≡ false
+few_still ss s e l h before = few_vertices ss s e l before (same_vertices ss s h before)
+
+-- a link more
+pub few_links : (ss : List Statement) (link : PatternLink) → are_too_many ss ≡ false → length (filter_map link_in ss) < MAX_LINKS → are_too_many (ss ++ Link link ∷ []) ≡ false
+few_links ss link before h = not_over (ss ++ Link link ∷ []) (record {
+  edges = omega (arith, edges-push ss (Link link), (few ss before).edges);
+  vertices = same_vertices ss (Link link) refl before;
+  links = omega (arith, links-push ss (Link link), count_links ss, h);
+})
 
 -- What is held.
 
@@ -135,14 +176,16 @@ each-added what ss s before after h e = e ∙ ap (λ xs. xs ++ cons_option (what
 -- what is held with one statement more
 pub holds-push : (g after : GatheredState) (ss : List Statement) (s : Statement) → Holds g ss
     → after.query ≡ option_or g.query (question_in s) → after.fragments ≡ option_or g.fragments (fragments_in s) → after.cut ≡ option_or g.cut (cut_in s)
-    → after.edges ≡ g.edges ++ cons_option (edge_in s) [] → after.numbers ≡ numbers_with s g.numbers → after.labels ≡ g.labels ++ cons_option (vertex_in s) []
+    → after.edges ≡ g.edges ++ cons_option (edge_in s) [] → after.nodes ≡ g.nodes ++ cons_option (node_in s) [] → after.links ≡ g.links ++ cons_option (link_in s) [] → after.numbers ≡ numbers_with s g.numbers → after.labels ≡ g.labels ++ cons_option (vertex_in s) []
     → ((k : ℕ) → is_among k after.labelled ≡ list_any (λ v. v.0 == k) after.labels)
     → are_too_many (ss ++ s ∷ []) ≡ false → Holds after (ss ++ s ∷ [])
-holds-push g after ss s h query fragments cut edges numbers labels labelled few = record {
+holds-push g after ss s h query fragments cut edges nodes links numbers labels labelled few = record {
   query = first-added question_in ss s g.query after.query h.query query;
   fragments = first-added fragments_in ss s g.fragments after.fragments h.fragments fragments;
   cut = first-added cut_in ss s g.cut after.cut h.cut cut;
   edges = each-added edge_in ss s g.edges after.edges h.edges edges;
+  nodes = each-added node_in ss s g.nodes after.nodes h.nodes nodes;
+  links = each-added link_in ss s g.links after.links h.links links;
   numbers = numbers-added ss s g.numbers after.numbers h.numbers numbers;
   labels = each-added vertex_in ss s g.labels after.labels h.labels labels;
   labelled = labelled;
@@ -185,7 +228,17 @@ labelled-push n label before after labels h e k =
     turned false true = refl
     turned false false = refl
 
--- What a query lacks.
+-- a node was named before where its number is among those of the nodes
+pub node_again : (ss : List Statement) (node : PatternNode) (g : GatheredState) → Holds g ss → list_any (repeats (Node node)) ss ≡ has_node g.nodes node.number
+node_again ss node g h = was_named ss node ∙ ap (λ nodes. has_node nodes node.number) (sym h.nodes)
 
-pub missing : (b : Bool) (source : Option ℕ) (n : ℕ) (ss : List Statement) → source ≡ Some n → is_among n (vertex_numbers ss) ≡ b → cond b None (Some causes.NoSource) ≡ missing_source ss source
-missing b source n ss e h = subst (λ o. cond b None (Some causes.NoSource) ≡ missing_source ss o) (sym e) (ap (λ c. cond c None (Some causes.NoSource)) (sym h))
+-- The pattern that is held.
+
+abbrev pub pattern_from : List PatternNode → List PatternLink → PatternGraph
+pattern_from nodes links = record { nodes = nodes; links = links }
+
+pub same_pattern : {nodes more_nodes : List PatternNode} {links more_links : List PatternLink} → nodes ≡ more_nodes → links ≡ more_links → pattern_from nodes links ≡ pattern_from more_nodes more_links
+same_pattern {nodes} {more_nodes} {links} {more_links} e h = ap (λ ns. pattern_from ns links) e ∙ ap (pattern_from more_nodes) h
+
+pub held_pattern : {g : GatheredState} {ss : List Statement} → Holds g ss → pattern_from g.nodes g.links ≡ pattern_of ss
+held_pattern h = same_pattern h.nodes h.links

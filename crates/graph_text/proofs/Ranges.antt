@@ -8,21 +8,24 @@ use Rattle.grape_port.specs.Decimal.{number_of}
 use Rattle.graph_text.specs.declared.fault.Why.{Why}
 use Rattle.graph_text.specs.declared.fault.Why.TheVariants as causes
 use Rattle.graph_text.specs.declared.statement.Question.{Question}
-use Rattle.graph_text.specs.declared.statement.Question.TheVariants.{Distances, Labels, Reaches}
+use Rattle.graph_text.specs.declared.statement.Question.TheVariants.{Distances, Labels, Reaches, Simulation}
 use Rattle.graph_text.specs.declared.statement.Statement.{Statement}
-use Rattle.graph_text.specs.declared.statement.Statement.TheVariants.{Nothing, Joins, Vertex, Asks, Fragments, Cuts}
-use Rattle.graph_text.specs.Statements.{Range, is_in, are_in, word32, fragment_count, cons_number, numbers_of, statement_in, made_of, first, second, Form, completed, statement_by, edge_form, one_word_forms, query_forms, cut_forms, second_word_forms, statement_if, statement_among, keyword_statement, begins_with_digit, is_comment, statement_of}
+use Rattle.graph_text.specs.declared.statement.Statement.TheVariants.{Nothing, Joins, Vertex, Asks, Node, Link, Fragments, Cuts}
+use Rattle.graph_text.specs.Statements.{Range, is_in, are_in, word32, node_number, fragment_count, cons_number, numbers_of, statement_in, made_of, first, second, Form, completed, statement_by, edge_form, one_word_forms, query_forms, cut_forms, second_word_forms, statement_if, statement_among, keyword_statement, begins_with_digit, is_comment, statement_of}
 
 abbrev pub AsksInRange : Question → Type 0
 AsksInRange (Distances source) = source < 2 ^ 32
 AsksInRange Labels = ⊤
 AsksInRange (Reaches source) = source < 2 ^ 32
+AsksInRange Simulation = ⊤
 
 abbrev pub InRange : Statement → Type 0
 InRange Nothing = ⊤
 InRange (Joins edge) = (edge.from < 2 ^ 32) × (edge.to < 2 ^ 32) × (edge.weight < 2 ^ 32)
 InRange (Vertex number label) = (number < 2 ^ 32) × (label < 2 ^ 32)
 InRange (Asks q) = AsksInRange q
+InRange (Node node) = (node.number < 64) × (node.label < 2 ^ 32)
+InRange (Link link) = (link.from < 64) × (link.to < 64)
 InRange (Fragments n) = (1 ≤ n) × (n ≤ 64)
 InRange (Cuts c) = ⊤
 
@@ -113,13 +116,19 @@ queries_make : AllByRecursion FormMakes query_forms
 unfolding Makes
 queries_make = (
   makes_one word32 (λ ns. Asks (Distances (first ns))) (λ n a b. omega (arith, b)),
-  ((λ ns l e. tt), (makes_one word32 (λ ns. Asks (Reaches (first ns))) (λ n a b. omega (arith, b)), tt)),
+  ((λ ns l e. tt), (makes_one word32 (λ ns. Asks (Reaches (first ns))) (λ n a b. omega (arith, b)), ((λ ns l e. tt), tt))),
 )
 
 one_words_make : AllByRecursion FormMakes one_word_forms
 one_words_make = (
   makes_two word32 word32 (λ ns. Vertex (first ns) (second ns)) (λ n m a b c d. (omega (arith, b), omega (arith, d))),
-  (makes_one fragment_count (λ ns. Fragments (first ns)) (λ n a b. (a, b)), tt),
+  (
+    makes_two node_number word32 (λ ns. Node (record { number = first ns; label = second ns })) (λ n m a b c d. (omega (arith, b), omega (arith, d))),
+    (
+      makes_two node_number node_number (λ ns. Link (record { from = first ns; to = second ns })) (λ n m a b c d. (omega (arith, b), omega (arith, d))),
+      (makes_one fragment_count (λ ns. Fragments (first ns)) (λ n a b. (a, b)), tt),
+    ),
+  ),
 )
 
 cuts_make : AllByRecursion FormMakes cut_forms

@@ -5,20 +5,22 @@ use Rattle.graph_text.specs.declared.statement.Statement.{Statement}
 use Rattle.graph_text.specs.declared.statement.Statement.TheVariants.{Vertex}
 use Rattle.graph_text.specs.NumberSets.{is_among}
 use Rattle.graph_text.specs.ReaderState.{GatheredState}
-use Rattle.graph_text.specs.Input.{vertex_numbers, are_too_many, first_of, question_in, fragments_in, cut_in, edge_in}
+use Rattle.graph_text.specs.Input.{vertex_numbers, are_too_many, first_of, question_in, fragments_in, cut_in, edge_in, node_in, link_in}
 
 -- the vertex and the label that a statement names
 abbrev pub vertex_in : Statement → Option (ℕ × ℕ)
 vertex_in (Vertex number label) = Some (number, label)
 vertex_in s = None
 
--- It holds the query and the settings, the edges and the labels in their order, each vertex number once, and which of
--- them were given a label, of statements that are not too many.
+-- It holds the query and the settings, the edges, the pattern's nodes and links and the labels in their order, each
+-- vertex number once, and which of them were given a label, of statements that are not too many.
 pub record Holds (g : GatheredState) (ss : List Statement) : Type 0 where
   pub query : g.query ≡ first_of question_in ss
   pub fragments : g.fragments ≡ first_of fragments_in ss
   pub cut : g.cut ≡ first_of cut_in ss
   pub edges : g.edges ≡ filter_map edge_in ss
+  pub nodes : g.nodes ≡ filter_map node_in ss
+  pub links : g.links ≡ filter_map link_in ss
   pub numbers : g.numbers ≡ vertex_numbers ss
   pub labels : g.labels ≡ filter_map vertex_in ss
   pub labelled : (k : ℕ) → is_among k g.labelled ≡ list_any (λ v. v.0 == k) g.labels

@@ -1,9 +1,11 @@
 -- Which texts are an input, and which job each of them is.
-use Rattle.std.specs.Prelude.{◌≡◌, ℕ, ◌+◌, ◌==◌, Bool, true, false, ◌||◌, nat_lt, if◌then◌else◌, List, [], ◌∷◌, ◌++◌, length, map, filter_map, count_by, Option, Some, None, unwrap_or, option_map, Result, Ok, Err, ⊤}
-use Rattle.std.specs.List.{list_any}
+use Rattle.std.specs.Prelude.{◌≡◌, ℕ, ◌+◌, ◌==◌, Bool, true, false, ◌&&◌, ◌||◌, nat_lt, if◌then◌else◌, List, [], ◌∷◌, ◌++◌, length, map, filter_map, count_by, Option, Some, None, unwrap_or, option_map, Result, Ok, Err}
+use Rattle.std.specs.List.{list_any, list_all}
 use Rattle.std.specs.Option.{option_or}
 use Rattle.std.specs.Result.{result_ok}
 use Rattle.graph_core.specs.declared.edge.Edge.{Edge}
+use Rattle.graph_core.specs.declared.pattern.PatternNode.{PatternNode}
+use Rattle.graph_core.specs.declared.pattern.PatternLink.{PatternLink}
 use Rattle.graph_core.specs.declared.query.Query.{Query}
 use Rattle.graph_core.specs.declared.query.Query.TheVariants as query
 use Rattle.graph_core.specs.declared.settings.Cut.{Cut}
@@ -11,14 +13,15 @@ use Rattle.graph_core.specs.declared.settings.Cut.TheVariants as cut
 use Rattle.graph_core.specs.declared.settings.Policy.TheVariants as policy
 use Rattle.graph_core.specs.declared.settings.Settings.{Settings}
 use Rattle.graph_core.specs.declared.job.Job.{Job}
-use Rattle.graph_core.specs.Graphs.{graph_of, MAX_VERTICES, MAX_EDGES}
+use Rattle.graph_core.specs.PatternGraph.{PatternGraph}
+use Rattle.graph_core.specs.Graphs.{graph_of, MAX_VERTICES, MAX_EDGES, MAX_LINKS}
 use Rattle.graph_text.specs.declared.fault.Why.{Why}
 use Rattle.graph_text.specs.declared.fault.Why.TheVariants as causes
 use Rattle.graph_text.specs.Lines.{lines_of, words_of, is_ended, is_too_long}
 use Rattle.graph_text.specs.declared.statement.Question.{Question}
-use Rattle.graph_text.specs.declared.statement.Question.TheVariants.{Distances, Labels, Reaches}
+use Rattle.graph_text.specs.declared.statement.Question.TheVariants.{Distances, Labels, Reaches, Simulation}
 use Rattle.graph_text.specs.declared.statement.Statement.{Statement}
-use Rattle.graph_text.specs.declared.statement.Statement.TheVariants.{Joins, Vertex, Asks, Fragments, Cuts}
+use Rattle.graph_text.specs.declared.statement.Statement.TheVariants.{Joins, Vertex, Asks, Node, Link, Fragments, Cuts}
 use Rattle.graph_text.specs.Statements.{statement_of}
 use Rattle.graph_text.specs.NumberSets.{insert_number, is_among}
 
@@ -45,21 +48,26 @@ abbrev pub vertex_numbers : List Statement → List ℕ
 vertex_numbers [] = []
 vertex_numbers (s ∷ ss) = numbers_with s (vertex_numbers ss)
 
--- Each of these may stand on one line alone: the query, a setting, the label of a vertex.
+-- Each of these may stand on one line alone: the query, a setting, the label of a vertex, a node of the pattern.
 abbrev pub repeats : Statement → Statement → Bool
 repeats (Asks q) (Asks r) = true
 repeats (Fragments m) (Fragments n) = true
 repeats (Cuts c) (Cuts d) = true
 repeats (Vertex m k) (Vertex n l) = m == n
+repeats (Node m) (Node n) = m.number == n.number
 repeats s t = false
 
 abbrev pub is_edge : Statement → Bool
 is_edge (Joins edge) = true
 is_edge s = false
 
--- more edges or vertices than there may be
+abbrev pub is_link : Statement → Bool
+is_link (Link link) = true
+is_link s = false
+
+-- more edges, vertices or links than there may be
 abbrev pub are_too_many : List Statement → Bool
-are_too_many ss = nat_lt MAX_EDGES (count_by is_edge ss) || nat_lt MAX_VERTICES (length (vertex_numbers ss))
+are_too_many ss = nat_lt MAX_EDGES (count_by is_edge ss) || nat_lt MAX_VERTICES (length (vertex_numbers ss)) || nat_lt MAX_LINKS (count_by is_link ss)
 
 -- why a line with such words is bad behind earlier statements
 abbrev pub cause_among : List Statement → Result Statement Why → Option Why
@@ -83,21 +91,13 @@ first_bad cause before [] = None
 first_bad cause before (line ∷ lines) =
     option_or (option_map (bad (length before + 1)) (cause before line)) (first_bad cause (before ++ line ∷ []) lines)
 
--- the queries whose lines are built: all but simulations
-abbrev pub IsAsked : Query → Type 0
-IsAsked (query.Dist source) = ⊤
-IsAsked query.Label = ⊤
-IsAsked (query.Reach source) = ⊤
-IsAsked (query.Sim pattern) = ⊥
-
 -- the settings whose lines are not built stand at one value
 abbrev pub AreBuilt : Settings → Type 0
 AreBuilt settings = (settings.policy ≡ policy.Ap) × (settings.snapshot ≡ 0)
 
 -- what a job is whose lines are built
-pub record IsBuilt (job : Job) : Type 0 where
-  pub query : IsAsked job.query
-  pub settings : AreBuilt job.settings
+abbrev pub IsBuilt : Job → Type 0
+IsBuilt job = AreBuilt job.settings
 
 -- what the first statement of a kind says
 abbrev pub first_of : {X : Type 0} → (Statement → Option X) → List Statement → Option X
@@ -111,6 +111,14 @@ question_in s = None
 abbrev pub edge_in : Statement → Option Edge
 edge_in (Joins edge) = Some edge
 edge_in s = None
+
+abbrev pub node_in : Statement → Option PatternNode
+node_in (Node node) = Some node
+node_in s = None
+
+abbrev pub link_in : Statement → Option PatternLink
+link_in (Link link) = Some link
+link_in s = None
 
 abbrev pub fragments_in : Statement → Option ℕ
 fragments_in (Fragments n) = Some n
@@ -144,27 +152,43 @@ label_of ss number = unwrap_or (first_of (label_in number) ss) 0
 abbrev pub vertices_of : List Statement → List (ℕ × ℕ)
 vertices_of ss = map (λ number. (number, label_of ss number)) (vertex_numbers ss)
 
-abbrev pub query_of : Question → Query
-query_of (Distances source) = query.Dist source
-query_of Labels = query.Label
-query_of (Reaches source) = query.Reach source
+-- the pattern: its nodes and its links in the order of their lines
+abbrev pub pattern_of : List Statement → PatternGraph
+pattern_of ss = record { nodes = filter_map node_in ss; links = filter_map link_in ss }
+
+-- what is asked, of this pattern where it is a simulation
+abbrev pub query_of : PatternGraph → Question → Query
+query_of pattern (Distances source) = query.Dist source
+query_of pattern Labels = query.Label
+query_of pattern (Reaches source) = query.Reach source
+query_of pattern Simulation = query.Sim pattern
 
 abbrev pub job_of : List Statement → Question → Job
-job_of ss q = record { graph = graph_of (vertices_of ss) (filter_map edge_in ss); query = query_of q; settings = settings_of ss }
+job_of ss q = record { graph = graph_of (vertices_of ss) (filter_map edge_in ss); query = query_of (pattern_of ss) q; settings = settings_of ss }
 
--- the number of the vertex that a query starts from
-abbrev pub source_of : Question → Option ℕ
-source_of (Distances source) = Some source
-source_of Labels = None
-source_of (Reaches source) = Some source
+-- the vertex that a query starts from, where no line names it
+abbrev pub missing_source : List Statement → ℕ → Option Why
+missing_source ss source = if is_among source (vertex_numbers ss) then None else Some causes.NoSource
 
--- what a query needs and the lines lack: its source, where it has one, among the vertices
-abbrev pub missing_source : List Statement → Option ℕ → Option Why
-missing_source ss None = None
-missing_source ss (Some source) = if is_among source (vertex_numbers ss) then None else Some causes.NoSource
+abbrev pub has_node : List PatternNode → ℕ → Bool
+has_node nodes number = list_any (λ node. node.number == number) nodes
 
+abbrev pub joins_nodes : List PatternNode → PatternLink → Bool
+joins_nodes nodes link = has_node nodes link.from && has_node nodes link.to
+
+-- there is a node, and each link joins two
+abbrev pub is_whole : PatternGraph → Bool
+is_whole pattern = nat_lt 0 (length pattern.nodes) && list_all (joins_nodes pattern.nodes) pattern.links
+
+abbrev pub missing_pattern : List Statement → Option Why
+missing_pattern ss = if is_whole (pattern_of ss) then None else Some causes.NoPattern
+
+-- what a query needs and the lines lack: its source among the vertices, or a pattern
 abbrev pub missing_for : List Statement → Question → Option Why
-missing_for ss q = missing_source ss (source_of q)
+missing_for ss (Distances source) = missing_source ss source
+missing_for ss Labels = None
+missing_for ss (Reaches source) = missing_source ss source
+missing_for ss Simulation = missing_pattern ss
 
 -- the job that good lines make, or the cause why they make none
 abbrev pub job_unless : List Statement → Question → Option Why → Result Job Why

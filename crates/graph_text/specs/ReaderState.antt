@@ -1,6 +1,8 @@
 -- A reader of lines as its callers see it.
 use Rattle.std.specs.Prelude.{ℕ, List, Option}
 use Rattle.graph_core.specs.declared.edge.Edge.{Edge}
+use Rattle.graph_core.specs.declared.pattern.PatternNode.{PatternNode}
+use Rattle.graph_core.specs.declared.pattern.PatternLink.{PatternLink}
 use Rattle.graph_core.specs.declared.settings.Cut.{Cut}
 use Rattle.graph_text.specs.declared.fault.TextFault.{TextFault}
 use Rattle.graph_text.specs.declared.statement.Question.{Question}
@@ -14,12 +16,14 @@ pub record GatheredState : Type 0 where
   pub fragments : Option ℕ
   pub cut : Option Cut
   pub edges : List Edge
+  pub nodes : List PatternNode
+  pub links : List PatternLink
   pub numbers : List ℕ
   pub labels : List (ℕ × ℕ)
   pub labelled : List ℕ
 
 abbrev pub gathered_state : Gathered → GatheredState
-gathered_state g = record { query = g.query; fragments = g.fragments; cut = g.cut; edges = g.edges.items; numbers = g.numbers; labels = g.labels.items; labelled = g.labelled }
+gathered_state g = record { query = g.query; fragments = g.fragments; cut = g.cut; edges = g.edges.items; nodes = g.nodes.items; links = g.links.items; numbers = g.numbers; labels = g.labels.items; labelled = g.labelled }
 
 -- what is kept of the lines
 pub record LinesState : Type 0 where

@@ -46,6 +46,27 @@ labelled_job =
 abbrev pub empty_job : Job
 empty_job = record { graph = record { vertices = []; edges = [] }; query = query.Label; settings = unset }
 
+-- the simulation of two nodes that link to each other
+abbrev pub cycle_job : Job
+cycle_job =
+    record {
+      graph = record { vertices = (1, 1) ∷ (2, 0) ∷ []; edges = edge_of 0 1 1 ∷ [] };
+      query = query.Sim (record {
+        nodes = record { number = 0; label = 1 } ∷ record { number = 1; label = 2 } ∷ [];
+        links = record { from = 0; to = 1 } ∷ record { from = 1; to = 0 } ∷ [];
+      });
+      settings = unset;
+    }
+
+-- distances, beside lines of a pattern that nothing asks for
+abbrev pub unused_job : Job
+unused_job =
+    record {
+      graph = record { vertices = (1, 0) ∷ (2, 0) ∷ []; edges = edge_of 0 1 1 ∷ [] };
+      query = query.Dist 1;
+      settings = unset;
+    }
+
 -- what a vertex reaches in a list of edges from elsewhere
 abbrev pub download_job : Job
 download_job =

@@ -5,9 +5,9 @@ use Rattle.grape_port.specs.Decimal.{is_digit, number_of}
 use Rattle.graph_core.specs.declared.settings.Cut.TheVariants as cut
 use Rattle.graph_text.specs.declared.fault.Why.{Why}
 use Rattle.graph_text.specs.declared.fault.Why.TheVariants as causes
-use Rattle.graph_text.specs.declared.statement.Question.TheVariants.{Distances, Labels, Reaches}
+use Rattle.graph_text.specs.declared.statement.Question.TheVariants.{Distances, Labels, Reaches, Simulation}
 use Rattle.graph_text.specs.declared.statement.Statement.{Statement}
-use Rattle.graph_text.specs.declared.statement.Statement.TheVariants.{Nothing, Joins, Vertex, Asks, Fragments, Cuts}
+use Rattle.graph_text.specs.declared.statement.Statement.TheVariants.{Nothing, Joins, Vertex, Asks, Node, Link, Fragments, Cuts}
 
 -- the numbers from the first to the second one
 pub record Range : Type 0 where
@@ -20,6 +20,10 @@ is_in r n = nat_le r.low n && nat_le n r.high
 -- vertex numbers, labels and weights
 abbrev pub word32 : Range
 word32 = record { low = 0; high = 2 ^ 32 - 1 }
+
+-- numbers of pattern nodes
+abbrev pub node_number : Range
+node_number = record { low = 0; high = 63 }
 
 -- how many fragments there may be
 abbrev pub fragment_count : Range
@@ -84,11 +88,13 @@ edge_form =
       last = Some (codes "1");
     }
 
--- the forms that the first word names alone: a vertex with its label, which is 0 where it is left out, and a count of
--- fragments
+-- the forms that the first word names alone: a vertex with its label, which is 0 where it is left out, a node of the
+-- pattern with its label, a link from node to node, and a count of fragments
 abbrev pub one_word_forms : List Form
 one_word_forms =
     record { keyword = codes "v"; ranges = word32 ∷ word32 ∷ []; says = λ ns. Vertex (first ns) (second ns); last = Some (codes "0") }
+    ∷ record { keyword = codes "node"; ranges = node_number ∷ word32 ∷ []; says = λ ns. Node (record { number = first ns; label = second ns }); last = None }
+    ∷ record { keyword = codes "link"; ranges = node_number ∷ node_number ∷ []; says = λ ns. Link (record { from = first ns; to = second ns }); last = None }
     ∷ record { keyword = codes "fragments"; ranges = fragment_count ∷ []; says = λ ns. Fragments (first ns); last = None }
     ∷ []
 
@@ -98,6 +104,7 @@ query_forms =
     record { keyword = codes "dist"; ranges = word32 ∷ []; says = λ ns. Asks (Distances (first ns)); last = None }
     ∷ record { keyword = codes "label"; ranges = []; says = λ ns. Asks Labels; last = None }
     ∷ record { keyword = codes "reach"; ranges = word32 ∷ []; says = λ ns. Asks (Reaches (first ns)); last = None }
+    ∷ record { keyword = codes "sim"; ranges = []; says = λ ns. Asks Simulation; last = None }
     ∷ []
 
 -- the forms that the word behind `cut` names

@@ -10,17 +10,19 @@ pub enum Why {
     Number,
     /// The line has more or fewer words than its form.
     Count,
-    /// A number lies outside its range: 1 to 64 for fragments, 0 to 4,294,967,295 for all others.
+    /// A number lies outside its range: 1 to 64 for fragments, 0 to 63 for pattern nodes, 0 to 4,294,967,295 for all
+    /// others.
     Range,
     /// The line repeats one that may stand once.
     Twice,
-    /// The line is edge line 4,000,001, or brings vertex 1,000,001.
+    /// The line is edge line 4,000,001 or link line 4,097, or brings vertex 1,000,001.
     TooMany,
     /// The line behind the last: there is no query.
     NoQuery,
     /// The line behind the last: the query's vertex stands in no edge, and on no line of its own.
     NoSource,
-    /// The line behind the last: the query's pattern isn't whole.
+    /// The line behind the last: the query is a simulation, and there is no pattern node, or a link names a number that no
+    /// node has.
     NoPattern,
     /// The line has more than 4,096 bytes before its line feed, or byte 268,435,457 of the input. This comes before all
     /// other causes.

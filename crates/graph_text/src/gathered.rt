@@ -1,7 +1,7 @@
 ghost use Rattle.std.specs.Prelude.{◌≡◌, ℕ, ◌+◌, List, [], ◌∷◌, ◌++◌, length, filter_map, Ok, None, Some, IsSome, option_map, OnOk, IfOk, IfErr};
 ghost use Rattle.graph_core.specs.Graphs.{IsJob, MakeGraph, graph_of};
 ghost use Rattle.graph_text.specs.declared.statement.Statement.{Statement as Said};
-ghost use Rattle.graph_text.specs.Input.{bad, cause_among, statements_of, first_bad, cause_of, job_of_lines, vertices_of, settings_of, query_of, source_of, missing_for, edge_in, AreBuilt, IsBuilt};
+ghost use Rattle.graph_text.specs.Input.{bad, cause_among, statements_of, first_bad, cause_of, job_of_lines, vertices_of, settings_of, query_of, missing_source, missing_pattern, missing_for, edge_in, AreBuilt, IsBuilt};
 ghost use Rattle.graph_text.specs.ReaderState.{gathered_state};
 ghost use Rattle.graph_text.specs.Gathering.{Holds};
 ghost use Rattle.graph_text.specs.Reader.{Answers, Gives};
@@ -9,8 +9,11 @@ ghost use Rattle.graph_text.specs.Reader.{Answers, Gives};
 use crate::fault::{TextFault, Why};
 use crate::labels::with_labels;
 use crate::number_set::NumberSet;
+use crate::pattern_lines::{has_node, is_whole};
 use crate::statement::{Question, Statement};
-use graph_core::{Cut, Edge, Graph, Job, Policy, Query, Settings};
+use graph_core::{
+    Cut, Edge, Graph, Job, Pattern, PatternLink, PatternNode, Policy, Query, Settings,
+};
 use std::alloc::Global;
 
 /// The most edge lines.
@@ -18,6 +21,9 @@ const MAX_EDGES: usize = 4_000_000;
 
 /// The most vertices.
 const MAX_VERTICES: usize = 1_000_000;
+
+/// The most link lines.
+const MAX_LINKS: usize = 4_096;
 
 /// The count of fragments where no line gives one.
 const DEFAULT_FRAGMENTS: u32 = 4;
@@ -30,6 +36,10 @@ pub(crate) struct Gathered {
     cut: Option<Cut>,
     /// In the order of their lines, by vertex numbers.
     edges: Vec<Edge>,
+    /// In the order of their lines, each number once.
+    nodes: Vec<PatternNode>,
+    /// In the order of their lines.
+    links: Vec<PatternLink>,
     /// The vertices: each number that stands in an edge or beside a label.
     numbers: NumberSet,
     /// The vertices with a line of their own and their labels, in the order of these lines.
@@ -48,6 +58,8 @@ impl Gathered {
             fragments: None,
             cut: None,
             edges: Vec::new(alloc),
+            nodes: Vec::new(alloc),
+            links: Vec::new(alloc),
             numbers: NumberSet::new(alloc),
             labels: Vec::new(alloc),
             labelled: NumberSet::new(alloc),
@@ -64,6 +76,8 @@ impl Gathered {
             Statement::Joins(edge) => self.join(line, edge),
             Statement::Vertex { number, label } => self.label(line, number, label),
             Statement::Asks(question) => keep_once(&mut self.query, question, line),
+            Statement::Node(node) => self.add_node(line, node),
+            Statement::Link(link) => self.add_link(line, link),
             Statement::Fragments(count) => keep_once(&mut self.fragments, count, line),
             Statement::Cuts(cut) => keep_once(&mut self.cut, cut, line),
         }
@@ -106,6 +120,32 @@ impl Gathered {
         Ok(())
     }
 
+    /// Takes a node of the pattern. A second line of its number is bad.
+    fn add_node(&mut self, line: u64, node: PatternNode) -> Result<(), TextFault>
+        ensures answer { (ss : List Said) → Holds (gathered_state self.old) ss → Answers result (option_map (bad line) (cause_among ss (Ok (Statement.Node node)))) }
+        ensures ok { OnOk result ((ss : List Said) → Holds (gathered_state self.old) ss → Holds (gathered_state self.new) (ss ++ Statement.Node node ∷ [])) }
+    {
+        if has_node(&self.nodes, node.number) {
+            let why = Why::Twice;
+            return Err(TextFault::Bad { line, why });
+        }
+        self.nodes.push(node)?;
+        Ok(())
+    }
+
+    /// Takes a link of the pattern. One link too many is bad.
+    fn add_link(&mut self, line: u64, link: PatternLink) -> Result<(), TextFault>
+        ensures answer { (ss : List Said) → Holds (gathered_state self.old) ss → Answers result (option_map (bad line) (cause_among ss (Ok (Statement.Link link)))) }
+        ensures ok { OnOk result ((ss : List Said) → Holds (gathered_state self.old) ss → Holds (gathered_state self.new) (ss ++ Statement.Link link ∷ [])) }
+    {
+        if self.links.len() >= MAX_LINKS {
+            let why = Why::TooMany;
+            return Err(TextFault::Bad { line, why });
+        }
+        self.links.push(link)?;
+        Ok(())
+    }
+
     /// The job that the lines make, if nothing is lacking. Else the line behind the last, which is `line`, is bad.
     pub(crate) fn into_job(self, line: u64) -> Result<Job, TextFault>
         requires { (lines : List (List ℕ)) × Holds (gathered_state self) (statements_of lines) × (first_bad cause_of [] lines ≡ None) }
@@ -121,8 +161,9 @@ impl Gathered {
             return Err(TextFault::Bad { line, why });
         }
         let graph = self.graph()?;
-        let query = query_of(question);
         let settings = self.settings();
+        let Gathered { nodes, links, .. } = self;
+        let query = query_of(question, Pattern { nodes, links });
         Ok(Job {
             graph,
             query,
@@ -134,11 +175,32 @@ impl Gathered {
     fn missing_for(&self, question: Question) -> Option<Why>
         ensures { (ss : List Said) → Holds (gathered_state self.now) ss → result ≡ missing_for ss question }
     {
-        let source = source_of(question)?;
+        match question {
+            Question::Labels => None,
+            Question::Distances(source) | Question::Reaches(source) => self.missing_source(source),
+            Question::Simulation => self.missing_pattern(),
+        }
+    }
+
+    /// That the vertex with this number is lacking, where it is.
+    fn missing_source(&self, source: u32) -> Option<Why>
+        ensures { (ss : List Said) → Holds (gathered_state self.now) ss → result ≡ missing_source ss source }
+    {
         if self.numbers.contains(source) {
             None
         } else {
             Some(Why::NoSource)
+        }
+    }
+
+    /// That nodes and links make no pattern, where they don't.
+    fn missing_pattern(&self) -> Option<Why>
+        ensures { (ss : List Said) → Holds (gathered_state self.now) ss → result ≡ missing_pattern ss }
+    {
+        if is_whole(&self.nodes, &self.links) {
+            None
+        } else {
+            Some(Why::NoPattern)
         }
     }
 
@@ -183,23 +245,14 @@ fn keep_once<T: Drop>(kept: &mut Option<T>, said: T, line: u64) -> Result<(), Te
     Ok(())
 }
 
-/// The number of the vertex that a query starts from.
-fn source_of(question: Question) -> Option<u32>
-    ensures { result ≡ source_of question }
-{
-    match question {
-        Question::Labels => None,
-        Question::Distances(source) | Question::Reaches(source) => Some(source),
-    }
-}
-
-/// The query that a question asks.
-fn query_of(question: Question) -> Query
-    ensures { result ≡ query_of question }
+/// The query that a question asks, of this pattern where it is a simulation.
+fn query_of(question: Question, pattern: Pattern) -> Query
+    ensures { result ≡ query_of pattern question }
 {
     match question {
         Question::Distances(source) => Query::Dist(source),
         Question::Labels => Query::Label,
         Question::Reaches(source) => Query::Reach(source),
+        Question::Simulation => Query::Sim(pattern),
     }
 }

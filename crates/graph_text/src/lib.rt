@@ -6,7 +6,7 @@
 //!
 //! What the words of one line say is read without the others (module `statement`); which lines repeat another, or are
 //! too many, stands in module `gathered`, above a set of vertex numbers (`number_set`, over `flag_set`) and the
-//! labels beside them (`labels`).
+//! labels beside them (`labels`). Whether nodes and links make a pattern stands in `pattern_lines`.
 #![tactic(auto)]
 
 mod fault;
@@ -17,6 +17,7 @@ mod laws;
 mod line_reader;
 mod number_set;
 mod open_text;
+mod pattern_lines;
 mod statement;
 #[cfg(test)]
 mod tests;

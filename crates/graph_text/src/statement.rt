@@ -6,10 +6,13 @@ ghost use Rattle.graph_text.specs.Statements.{first, made_of, word32, statement_
 use crate::fault::Why;
 use crate::words::{split_word, without_line_end};
 use grape_port::read_number;
-use graph_core::{Cut, Edge};
+use graph_core::{Cut, Edge, PatternLink, PatternNode};
 
 /// The most fragments.
 const MAX_FRAGMENTS: u32 = 64;
+
+/// The largest number of a pattern node.
+const MAX_NODE: u8 = 63;
 
 /// What a query line asks for.
 #[derive(Clone, Copy, Debug, PartialEq, Eq)]
@@ -20,6 +23,8 @@ pub enum Question {
     Labels,
     /// Whether walks lead from the vertex with this number.
     Reaches(u32),
+    /// What the largest simulation of the pattern relates to each vertex.
+    Simulation,
 }
 
 /// What one line says, whatever the other lines are.
@@ -33,6 +38,10 @@ pub enum Statement {
     Vertex { number: u32, label: u32 },
     /// The query.
     Asks(Question),
+    /// A node of the pattern.
+    Node(PatternNode),
+    /// A link of the pattern.
+    Link(PatternLink),
     /// Into how many fragments the graph is cut, 1 to 64.
     Fragments(u32),
     /// How the graph is cut.
@@ -64,6 +73,10 @@ fn read_keyword(word: &[u8], rest: &[u8]) -> Result<Statement, Why>
         read_cut(rest)
     } else if word == b"v".as_slice() {
         read_vertex(rest)
+    } else if word == b"node".as_slice() {
+        read_node(rest)
+    } else if word == b"link".as_slice() {
+        read_link(rest)
     } else if word == b"fragments".as_slice() {
         read_fragments(rest)
     } else {
@@ -121,6 +134,7 @@ fn read_query(rest: &[u8]) -> Result<Statement, Why>
         b"dist" => read_distances(rest),
         b"label" => read_labels(rest),
         b"reach" => read_reaches(rest),
+        b"sim" => read_simulation(rest),
         _ => Err(Why::Word),
     }
 }
@@ -149,6 +163,16 @@ fn read_reaches(rest: &[u8]) -> Result<Statement, Why>
 {
     let source = read_source(rest)?;
     Ok(Statement::Asks(Question::Reaches(source)))
+}
+
+/// The query for a simulation, behind which no word stands.
+fn read_simulation(rest: &[u8]) -> Result<Statement, Why>
+    ensures { result ≡ statement_among query_forms (codes "sim" ∷ words_in rest.now) }
+{
+    if split_word(rest).is_some() {
+        return Err(Why::Count);
+    }
+    Ok(Statement::Asks(Question::Simulation))
 }
 
 /// The number of a vertex that is the one word here.
@@ -199,6 +223,42 @@ fn vertex_of(number: &[u8], label: &[u8]) -> Result<Statement, Why>
     }
 }
 
+/// The pattern node that the words behind `node` are: its number and its label.
+fn read_node(rest: &[u8]) -> Result<Statement, Why>
+    ensures { result ≡ statement_among one_word_forms (codes "node" ∷ words_in rest.now) }
+{
+    let Some((number, label)) = two_words(rest) else {
+        return Err(Why::Count);
+    };
+    let (Some(number), Some(label)) = (read_number(number), read_number(label)) else {
+        return Err(Why::Number);
+    };
+    match (u8::try_from(number), u32::try_from(label)) {
+        (Ok(number), Ok(label)) if number <= MAX_NODE => {
+            Ok(Statement::Node(PatternNode { number, label }))
+        }
+        _ => Err(Why::Range),
+    }
+}
+
+/// The link that the words behind `link` are: the numbers of its two nodes.
+fn read_link(rest: &[u8]) -> Result<Statement, Why>
+    ensures { result ≡ statement_among one_word_forms (codes "link" ∷ words_in rest.now) }
+{
+    let Some((from, to)) = two_words(rest) else {
+        return Err(Why::Count);
+    };
+    let (Some(from), Some(to)) = (read_number(from), read_number(to)) else {
+        return Err(Why::Number);
+    };
+    match (u8::try_from(from), u8::try_from(to)) {
+        (Ok(from), Ok(to)) if from <= MAX_NODE && to <= MAX_NODE => {
+            Ok(Statement::Link(PatternLink { from, to }))
+        }
+        _ => Err(Why::Range),
+    }
+}
+
 /// The count of fragments that the one word behind `fragments` is.
 fn read_fragments(rest: &[u8]) -> Result<Statement, Why>
     ensures { result ≡ statement_among one_word_forms (codes "fragments" ∷ words_in rest.now) }
@@ -242,4 +302,13 @@ fn only_word(text: &[u8]) -> Option<&[u8]>
         None => Some(word),
         Some(_) => None,
     }
+}
+
+/// The two words of a text, or `None` where there are fewer or more.
+fn two_words(text: &[u8]) -> Option<(&[u8], &[u8])>
+    ensures { MatchOption result ((length (words_in text.now) == 2) ≡ false) (λ words. words_in text.now ≡ words.0.now ∷ words.1.now ∷ []) }
+{
+    let (first, rest) = split_word(text)?;
+    let second = only_word(rest)?;
+    Some((first, second))
 }

@@ -1,7 +1,7 @@
 use crate::number_set::NumberSet;
 use crate::{LineReader, TextFault, Why};
 use grape_port::NoMemory;
-use graph_core::{Cut, Edge, Job, Policy, Query};
+use graph_core::{Cut, Edge, Job, PatternLink, PatternNode, Policy, Query};
 use std::alloc::Global;
 use std::process::Abort;
 use std::test::Fail;
@@ -60,7 +60,7 @@ fn bad_table() -> [(&'static [u8], u64, Why); 21] {
 
 fn bad_queries() -> [(&'static [u8], u64, Why); 20] {
     [
-        (b"query sim", 1, Why::Word),
+        (b"query sims", 1, Why::Word),
         (b"query labels", 1, Why::Word),
         (b"query reaches x", 1, Why::Word),
         (b"label", 1, Why::Word),
@@ -135,6 +135,37 @@ fn bad_vertices() -> [(&'static [u8], u64, Why); 18] {
     ]
 }
 
+fn bad_patterns() -> [(&'static [u8], u64, Why); 22] {
+    [
+        (b"query sim", 2, Why::NoPattern),
+        (b"query sim\n", 2, Why::NoPattern),
+        (b"query sim 1", 1, Why::Count),
+        (b"query sim\nquery sim\n", 2, Why::Twice),
+        (b"Node 1 1", 1, Why::Word),
+        (b"node", 1, Why::Count),
+        (b"node 0", 1, Why::Count),
+        (b"node 0 0 0", 1, Why::Count),
+        (b"node x 0", 1, Why::Number),
+        (b"node 64 x", 1, Why::Number),
+        (b"node 64 0", 1, Why::Range),
+        (b"node 256 0", 1, Why::Range),
+        (b"node 63 4294967296", 1, Why::Range),
+        (b"node 1 1\nnode 1 2", 2, Why::Twice),
+        (
+            b"query dist 1\n1 2\nnode 63 5\nnode 063 5\nhello\n",
+            4,
+            Why::Twice,
+        ),
+        (b"link 0", 1, Why::Count),
+        (b"link 0 0 0", 1, Why::Count),
+        (b"link 0 x", 1, Why::Number),
+        (b"link 64 0", 1, Why::Range),
+        (b"query dist 1\nlink 0 64\n1 2", 2, Why::Range),
+        (b"query sim\nnode 0 0\nlink 0 1\n", 4, Why::NoPattern),
+        (b"link 1 0\nquery sim\nnode 0 0", 4, Why::NoPattern),
+    ]
+}
+
 /// Checks that each text of a table is refused at its line for its cause, however it is cut.
 fn check_refused(rt: &impl Abort, alloc: Global, table: &[(&'static [u8], u64, Why)]) {
     for (text, line, why) in table {
@@ -159,6 +190,7 @@ fn bad_lines(rt: HostRuntime) {
     check_refused(&rt, rt.alloc(), &bad_queries());
     check_refused(&rt, rt.alloc(), &bad_settings());
     check_refused(&rt, rt.alloc(), &bad_vertices());
+    check_refused(&rt, rt.alloc(), &bad_patterns());
 }
 
 /// The query of a job.
@@ -189,7 +221,7 @@ struct Wanted {
     edges: &'static [(u32, u32, u32)],
 }
 
-fn job_table() -> [(&'static [u8], Wanted); 8] {
+fn job_table() -> [(&'static [u8], Wanted); 9] {
     let plain = Wanted {
         query: Asked::Dist(0),
         fragments: 4,
@@ -236,6 +268,15 @@ fn job_table() -> [(&'static [u8], Wanted); 8] {
                     (0, 1, 9),
                     (1, 0, 4294967295),
                 ],
+                ..plain
+            },
+        ),
+        (
+            b"query dist 1\nnode 0 1\nlink 0 0\nlink 63 9\n1 2",
+            Wanted {
+                query: Asked::Dist(1),
+                vertices: &[(1, 0), (2, 0)],
+                edges: &[(0, 1, 1)],
                 ..plain
             },
         ),
@@ -325,6 +366,58 @@ fn jobs(rt: HostRuntime) -> Result<(), Fail> {
             check_job(&rt, rt.alloc(), &job, &want)?;
         }
     }
+    Ok(())
+}
+
+#[test]
+fn patterns(rt: HostRuntime) {
+    let nodes: [PatternNode; 3] = [
+        PatternNode {
+            number: 63,
+            label: 7,
+        },
+        PatternNode {
+            number: 0,
+            label: 4294967295,
+        },
+        PatternNode {
+            number: 5,
+            label: 7,
+        },
+    ];
+    let links: [PatternLink; 4] = [
+        PatternLink { from: 63, to: 0 },
+        PatternLink { from: 5, to: 5 },
+        PatternLink { from: 0, to: 5 },
+        PatternLink { from: 63, to: 0 },
+    ];
+    let text =
+        b"link 63 0\nnode 63 7\nlink 5 5\nquery sim\nnode 0 4294967295\n1 2\nlink\t0 5\r\nnode 5 007\nlink 63 0";
+    for size in [1usize, 3, 4096] {
+        let Ok(job) = read(rt.alloc(), text, size) else {
+            panic!(rt; "no job of pieces of {size}")
+        };
+        assert_eq!(rt; job.graph.count(), 2);
+        let Query::Sim(pattern) = &job.query else {
+            panic!(rt; "another query of pieces of {size}")
+        };
+        assert_eq!(rt; pattern.nodes.as_slice(), nodes.as_slice());
+        assert_eq!(rt; pattern.links.as_slice(), links.as_slice());
+    }
+}
+
+#[test]
+fn many_links(rt: HostRuntime) -> Result<(), Fail> {
+    let mut reader = LineReader::new(rt.alloc())?;
+    assert_eq!(rt; reader.feed(b"query sim\nnode 0 0\n"), Ok(()));
+    for _ in 0..4096 {
+        assert_eq!(rt; reader.feed(b"link 0 0\n"), Ok(()));
+    }
+    let many = TextFault::Bad {
+        line: 4099,
+        why: Why::TooMany,
+    };
+    assert_eq!(rt; reader.feed(b"link 0 0\n"), Err(many));
     Ok(())
 }
 

@@ -1,6 +1,6 @@
 ghost use Rattle.std.specs.Prelude.{◌≡◌, [], codes, replicate};
 ghost use Rattle.graph_text.specs.Input.{input_of, shown_of, bad};
-ghost use Rattle.graph_text.specs.Rows.{detour_job, to_and_fro, alone_job, labelled_job, empty_job, download_job};
+ghost use Rattle.graph_text.specs.Rows.{detour_job, to_and_fro, alone_job, labelled_job, empty_job, download_job, cycle_job, unused_job};
 
 use crate::fault::Why;
 
@@ -11,7 +11,16 @@ pub fn rows()
     ensures empty { input_of [] ≡ Err (bad 1 Why.NoQuery) }
     ensures keyword { input_of (codes "hello") ≡ Err (bad 1 Why.Word) }
     ensures query_word { input_of (codes "query foo") ≡ Err (bad 1 Why.Word) }
-    ensures unbuilt_query { input_of (codes "query sim") ≡ Err (bad 1 Why.Word) }
+    ensures no_pattern { input_of (codes "query sim") ≡ Err (bad 2 Why.NoPattern) }
+    ensures simulation_count { input_of (codes "query sim 1") ≡ Err (bad 1 Why.Count) }
+    ensures node_range { input_of (codes "node 64 0") ≡ Err (bad 1 Why.Range) }
+    ensures node_count { input_of (codes "node 0") ≡ Err (bad 1 Why.Count) }
+    ensures second_node { input_of (codes "node 1 1\nnode 1 2\n") ≡ Err (bad 2 Why.Twice) }
+    ensures link_count { input_of (codes "link 0") ≡ Err (bad 1 Why.Count) }
+    ensures link_range { input_of (codes "link 0 64") ≡ Err (bad 1 Why.Range) }
+    ensures link_without_node { input_of (codes "query sim\nnode 0 0\nlink 0 1\n") ≡ Err (bad 4 Why.NoPattern) }
+    ensures cycle { input_of (codes "query sim\nnode 0 1\nlink 0 1\nnode 1 2\nlink 1 0\nv 1 1\n1 2\n") ≡ Ok cycle_job }
+    ensures unused_pattern { input_of (codes "query dist 1\nnode 0 1\nlink 0 5\n1 2\n") ≡ Ok unused_job }
     ensures labels { input_of (codes "query label") ≡ Ok empty_job }
     ensures labels_count { input_of (codes "query label 1") ≡ Err (bad 1 Why.Count) }
     ensures reach_count { input_of (codes "query reach") ≡ Err (bad 1 Why.Count) }

@@ -8,27 +8,27 @@ use Rattle.graph_text.proofs.Gatherings.{nothing_again, asked, divided, was_cut,
 use Rattle.graph_text.proofs.gathered.Gathered.take.Goals as goal
 
 pub returns-in-Nothing-clause-answer : goal.returns-in-Nothing-clause-answer
-returns-in-Nothing-clause-answer c = λ ss h. rw c.in-Nothing.is (ap (option_map (bad c.args.line)) (no_cause ss Nothing (nothing_again ss) (few_still ss Nothing refl refl h.few)))
+returns-in-Nothing-clause-answer c = λ ss h. rw c.in-Nothing.is (ap (option_map (bad c.args.line)) (no_cause ss Nothing (nothing_again ss) (few_still ss Nothing refl refl refl h.few)))
 
 pub returns-in-Nothing-clause-ok : goal.returns-in-Nothing-clause-ok
 returns-in-Nothing-clause-ok c = λ ss h.
     rw c.in-Nothing.is
-    (holds-push (gathered_state c.args.self.now) (gathered_state c.args.self.now) ss Nothing h (sym (or_none _)) (sym (or_none _)) (sym (or_none _)) (sym (append-nil _)) refl (sym (append-nil _)) h.labelled
-    (few_still ss Nothing refl refl h.few))
+    (holds-push (gathered_state c.args.self.now) (gathered_state c.args.self.now) ss Nothing h (sym (or_none _)) (sym (or_none _)) (sym (or_none _)) (sym (append-nil _)) (sym (append-nil _)) (sym (append-nil _)) refl (sym (append-nil _)) h.labelled
+    (few_still ss Nothing refl refl refl h.few))
 
 pub returns-in-Asks-clause-answer : goal.returns-in-Asks-clause-answer
 returns-in-Asks-clause-answer c = λ ss h.
     let s : Statement = Asks c.in-Asks.question
     in rw c.in-Asks.is
     (once-answers c.keep_once.result c.args.line c.args.self.now.query c.keep_once.new.kept c.in-Asks.question ss s (c.keep_once.ensures.first, c.keep_once.ensures.second)
-    (asked ss c.in-Asks.question ∙ ap is_some (sym h.query)) (few_still ss s refl refl h.few))
+    (asked ss c.in-Asks.question ∙ ap is_some (sym h.query)) (few_still ss s refl refl refl h.few))
 
 pub returns-in-Asks-clause-ok : goal.returns-in-Asks-clause-ok
 returns-in-Asks-clause-ok c =
     let s : Statement = Asks c.in-Asks.question
     in rw c.in-Asks.is
     (once-kept c.keep_once.result c.args.line c.args.self.now.query c.keep_once.new.kept c.in-Asks.question _ (c.keep_once.ensures.first, c.keep_once.ensures.second)
-    (λ kept ss h. holds-push (gathered_state c.args.self.now) _ ss s h kept (sym (or_none _)) (sym (or_none _)) (sym (append-nil _)) refl (sym (append-nil _)) h.labelled (few_still ss s refl refl h.few)))
+    (λ kept ss h. holds-push (gathered_state c.args.self.now) _ ss s h kept (sym (or_none _)) (sym (or_none _)) (sym (append-nil _)) (sym (append-nil _)) (sym (append-nil _)) refl (sym (append-nil _)) h.labelled (few_still ss s refl refl refl h.few)))
 
 pub returns-in-Fragments-clause-answer : goal.returns-in-Fragments-clause-answer
 returns-in-Fragments-clause-answer c = λ ss h.
@@ -36,7 +36,7 @@ returns-in-Fragments-clause-answer c = λ ss h.
     in let keep = c.keep_once-in-Fragments
     in rw c.in-Fragments.is
     (once-answers keep.result c.args.line c.args.self.now.fragments keep.new.kept c.in-Fragments.count ss s (keep.ensures.first, keep.ensures.second)
-    (divided ss c.in-Fragments.count ∙ ap is_some (sym h.fragments)) (few_still ss s refl refl h.few))
+    (divided ss c.in-Fragments.count ∙ ap is_some (sym h.fragments)) (few_still ss s refl refl refl h.few))
 
 pub returns-in-Fragments-clause-ok : goal.returns-in-Fragments-clause-ok
 returns-in-Fragments-clause-ok c =
@@ -44,14 +44,14 @@ returns-in-Fragments-clause-ok c =
     in let keep = c.keep_once-in-Fragments
     in rw c.in-Fragments.is
     (once-kept keep.result c.args.line c.args.self.now.fragments keep.new.kept c.in-Fragments.count _ (keep.ensures.first, keep.ensures.second)
-    (λ kept ss h. holds-push (gathered_state c.args.self.now) _ ss s h (sym (or_none _)) kept (sym (or_none _)) (sym (append-nil _)) refl (sym (append-nil _)) h.labelled (few_still ss s refl refl h.few)))
+    (λ kept ss h. holds-push (gathered_state c.args.self.now) _ ss s h (sym (or_none _)) kept (sym (or_none _)) (sym (append-nil _)) (sym (append-nil _)) (sym (append-nil _)) refl (sym (append-nil _)) h.labelled (few_still ss s refl refl refl h.few)))
 
 pub returns-in-Cuts-clause-answer : goal.returns-in-Cuts-clause-answer
 returns-in-Cuts-clause-answer c = λ ss h.
     let s : Statement = Cuts c.in-Cuts.cut
     in let keep = c.keep_once-in-Cuts
     in rw c.in-Cuts.is
-    (once-answers keep.result c.args.line c.args.self.now.cut keep.new.kept c.in-Cuts.cut ss s (keep.ensures.first, keep.ensures.second) (was_cut ss c.in-Cuts.cut ∙ ap is_some (sym h.cut)) (few_still ss s refl refl h.few))
+    (once-answers keep.result c.args.line c.args.self.now.cut keep.new.kept c.in-Cuts.cut ss s (keep.ensures.first, keep.ensures.second) (was_cut ss c.in-Cuts.cut ∙ ap is_some (sym h.cut)) (few_still ss s refl refl refl h.few))
 
 pub returns-in-Cuts-clause-ok : goal.returns-in-Cuts-clause-ok
 returns-in-Cuts-clause-ok c =
@@ -59,4 +59,4 @@ returns-in-Cuts-clause-ok c =
     in let keep = c.keep_once-in-Cuts
     in rw c.in-Cuts.is
     (once-kept keep.result c.args.line c.args.self.now.cut keep.new.kept c.in-Cuts.cut _ (keep.ensures.first, keep.ensures.second)
-    (λ kept ss h. holds-push (gathered_state c.args.self.now) _ ss s h (sym (or_none _)) (sym (or_none _)) kept (sym (append-nil _)) refl (sym (append-nil _)) h.labelled (few_still ss s refl refl h.few)))
+    (λ kept ss h. holds-push (gathered_state c.args.self.now) _ ss s h (sym (or_none _)) (sym (or_none _)) kept (sym (append-nil _)) (sym (append-nil _)) (sym (append-nil _)) refl (sym (append-nil _)) h.labelled (few_still ss s refl refl refl h.few)))
