@@ -16,6 +16,7 @@ use graph_text::{LineReader, TextFault};
 use pie_core::Pie;
 use pie_dist::Dist;
 use pie_flood::{Labels, Reach};
+use pie_sim::Sim;
 use std::alloc::Global;
 use std::process::Abort;
 use std::test::Fail;
@@ -54,7 +55,11 @@ fn journal_of(alloc: Global, job: &Job, fragments: &[Fragment]) -> Result<Journa
         Query::Dist(_) => rested(alloc, job, fragments, &Dist::new(), Dist::new()),
         Query::Label => rested(alloc, job, fragments, &Labels::new(), Labels::new()),
         Query::Reach(_) => rested(alloc, job, fragments, &Reach::new(), Reach::new()),
-        Query::Sim(_) => unreachable!(),
+        Query::Sim(pattern) => {
+            let program = Sim::new(alloc, pattern)?;
+            let kept = Sim::new(alloc, pattern)?;
+            rested(alloc, job, fragments, &program, kept)
+        }
     }
 }
 
