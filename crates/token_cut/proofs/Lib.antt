@@ -1,0 +1,4 @@
+pub mod Lowering
+pub mod Sizing
+pub mod Copying
+pub mod Marking

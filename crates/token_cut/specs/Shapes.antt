@@ -31,6 +31,17 @@ HaveShape (starts ∷ shape) (part ∷ parts) =
     (length part.values ≡ length starts.owned + length starts.mirrors) × (length part.mail ≡ length starts.mirrors) × HaveShape shape parts
 HaveShape shape parts = ⊥
 
+-- how many values and how much mail a part has
+abbrev pub size_of : PartValues → ℕ × ℕ
+size_of part = (length part.values, length part.mail)
+
+abbrev pub sizes_of : List PartValues → List (ℕ × ℕ)
+sizes_of parts = map size_of parts
+
+-- the same of the parts that have a shape
+abbrev pub sizes_in : List PartStarts → List (ℕ × ℕ)
+sizes_in shape = map (λ starts. (length starts.owned + length starts.mirrors, length starts.mirrors)) shape
+
 -- the start values, and no mail
 abbrev pub fresh_part : PartStarts → PartValues
 fresh_part starts = record { phase = Fresh; values = starts.owned ++ starts.mirrors; mail = replicate (length starts.mirrors) NOTHING }

@@ -39,6 +39,20 @@ impl Snapshot {
         }
         Ok(Snapshot { epoch: 0, parts })
     }
+
+    /// An equal snapshot.
+    pub fn copy(&self, alloc: Global) -> Result<Snapshot, NoMemory>
+        ensures { IfOk result (λ copy. copy ≡ self.now) }
+    {
+        let mut parts = Vec::with_capacity(alloc, self.parts.len())?;
+        for part in &self.parts {
+            parts.push(part.copy(alloc)?)?;
+        }
+        Ok(Snapshot {
+            epoch: self.epoch,
+            parts,
+        })
+    }
 }
 
 fn fresh_part(alloc: Global, starts: &ShapePart) -> Result<Part, NoMemory>
