@@ -51,7 +51,7 @@ kept_of_all past (Kept d ∷ begun) e h b = kept_of_all past begun e h b
 kept_of_all past (End ∷ begun) e h b = kept_of_all past begun e h b
 kept_of_all past (Stop c ∷ begun) e h b = kept_of_all past begun e h b
 
-all_of_kept : (past begun : List Event) → ((e : ℕ) → was_begun e begun ≡ true → was_kept e past ≡ true) → all_kept_in past begun ≡ true
+pub all_of_kept : (past begun : List Event) → ((e : ℕ) → was_begun e begun ≡ true → was_kept e past ≡ true) → all_kept_in past begun ≡ true
 all_of_kept past [] h = refl
 all_of_kept past (Begin d ∷ begun) h =
     and_from (was_kept d past) _ (h d (or_left (d == d) _ (eq-eqb d d refl))) (all_of_kept past begun (λ e b. h e (or_right (e == d) _ b)))
@@ -102,10 +102,10 @@ order_kept sys s (Stop c) h p = record { kept = p.kept; begun = p.begun }
 
 -- ---- a number that passes and is least by a measure
 
-abbrev IsLeast : (ℕ → Bool) → (ℕ → ℕ) → ℕ → ℕ → Type 0
+abbrev pub IsLeast : (ℕ → Bool) → (ℕ → ℕ) → ℕ → ℕ → Type 0
 IsLeast test r n i = (i < n) × (test i ≡ true) × ((j : ℕ) → j < n → test j ≡ true → r i ≤ r j)
 
-least_or_none : (test : ℕ → Bool) (r : ℕ → ℕ) (n : ℕ) → ((i : ℕ) → i < n → test i ≡ false) ⊎ ((i : ℕ) × IsLeast test r n i)
+pub least_or_none : (test : ℕ → Bool) (r : ℕ → ℕ) (n : ℕ) → ((i : ℕ) → i < n → test i ≡ false) ⊎ ((i : ℕ) × IsLeast test r n i)
 least_or_none test r zero = inl (λ i l. absurd (omega (arith, l)))
 least_or_none test r (suc n) = go (test n) refl (least_or_none test r n)
   where
@@ -131,12 +131,12 @@ any_none_from test a (suc n) h =
     or_from (test a) _ (subst (λ q. test q ≡ false) z (h 0 (omega arith)))
     (any_none_from test (a + 1) n (λ i l. let e : a + suc i ≡ a + 1 + i = omega arith in subst (λ q. test q ≡ false) e (h (suc i) (omega (arith, l)))))
 
-any_none : (test : ℕ → Bool) (n : ℕ) → ((i : ℕ) → i < n → test i ≡ false) → list_any test (numbers_below n) ≡ false
+pub any_none : (test : ℕ → Bool) (n : ℕ) → ((i : ℕ) → i < n → test i ≡ false) → list_any test (numbers_below n) ≡ false
 any_none test n h = any_none_from test 0 n (λ i l. let e : i ≡ 0 + i = omega arith in subst (λ q. test q ≡ false) e (h i l))
 
 -- ---- somebody can go on
 
-fresh_or_rests : (w : Worker) → is_running w ≡ false → (is_fresh w ≡ true) ⊎ (rests w ≡ true)
+pub fresh_or_rests : (w : Worker) → is_running w ≡ false → (is_fresh w ≡ true) ⊎ (rests w ≡ true)
 fresh_or_rests w h =
     elim w.standing as (λ x. elim x as (λ _. Bool) [ Fresh ↦ false | Running hand ↦ true | Rest ↦ false ] ≡ false →
     (elim x as (λ _. Bool) [ Fresh ↦ true | Running hand ↦ false | Rest ↦ false ] ≡ true) ⊎ (elim x as (λ _. Bool) [ Fresh ↦ false | Running hand ↦ false | Rest ↦ true ] ≡ true)) [
@@ -154,11 +154,74 @@ least_is_within c ws rounds i h = all_from_each (λ j. j == i || not (is_busy (w
         or_right (j == i || not (is_busy (worker_at ws j))) (nat_le (slice_index rounds i) (slice_index rounds j + c)) (le-leb (slice_index rounds i) (slice_index rounds j + c) (omega (arith, m)))
     go j l false e = or_left (j == i || not (is_busy (worker_at ws j))) (nat_le (slice_index rounds i) (slice_index rounds j + c)) (or_right (j == i) (not (is_busy (worker_at ws j))) (not_from_false (is_busy (worker_at ws j)) e))
 
-least_is_fresh_enough : (p : Policy) (ws : BaseState) (rounds : List ℕ) (i : ℕ) → IsLeast (λ j. is_busy (worker_at ws j)) (slice_index rounds) (length ws) i → is_fresh_enough p ws rounds i ≡ true
+pub least_is_fresh_enough : (p : Policy) (ws : BaseState) (rounds : List ℕ) (i : ℕ) → IsLeast (λ j. is_busy (worker_at ws j)) (slice_index rounds) (length ws) i → is_fresh_enough p ws rounds i ≡ true
 least_is_fresh_enough Bsp ws rounds i h = least_is_within 0 ws rounds i h
 least_is_fresh_enough Ap ws rounds i h = refl
 least_is_fresh_enough (Ssp c) ws rounds i h = least_is_within c ws rounds i h
 least_is_fresh_enough (Aap c l) ws rounds i h = least_is_within c ws rounds i h
+
+-- A lane has nothing to do where nobody runs: no event that concerns it is admitted by its row. No recording is open, and no snapshot is due.
+pub record IsIdle (sys : System) (s : State) (lane : ℕ) : Type 0 where
+  pub lane_in_range : lane < sys.settings.lanes
+  pub calm : (i : ℕ) → i < worker_count s → is_running (worker_at s.workers i) ≡ false
+  pub closed : recording_is_open s.past ≡ false
+  pub not_due : snapshot_is_due sys s ≡ false
+  pub refuses : (e : Event) → is_of_lane lane e ≡ true → row_admits sys s e ≡ true → ⊥
+
+module _ (sys : System) (s : State) (lane : ℕ) (t : IsIdle sys s lane) where
+  free : has_work_out s lane ≡ false
+  free = any_none _ (worker_count s) (λ i l. and_left _ _ (t.calm i l))
+
+  no_take : (i : ℕ) → IsLeast (λ j. is_busy (worker_at s.workers j)) (slice_index s.rounds) (worker_count s) i →
+      (is_fresh (worker_at s.workers i) || (rests_with_mail s i && delay_is_over sys.settings.policy s.workers s.past i)) ≡ true → ⊥
+  no_take i least ready =
+      t.refuses (Take i lane) (eq-eqb lane lane refl)
+      (and_from _ _ (lt-ltb i (worker_count s) least.0)
+      (and_from _ _
+      (and_from _ _
+      (and_from _ _
+      (and_from _ _ (and_from _ _ (lt-ltb lane sys.settings.lanes t.lane_in_range) (not_from_false _ free)) ready)
+      (least_is_fresh_enough sys.settings.policy s.workers s.rounds i least))
+      (not_from_false _ t.not_due))
+      (not_from_false _ (and_left (is_unmarked s i) _ (and_left (recording_is_open s.past) _ t.closed)))))
+
+  no_busy : (i : ℕ) → IsLeast (λ j. is_busy (worker_at s.workers j)) (slice_index s.rounds) (worker_count s) i → ⊥
+  no_busy i least = elim (fresh_or_rests (worker_at s.workers i) (t.calm i least.0)) [
+    | inl f ↦ no_take i least (or_left (is_fresh (worker_at s.workers i)) _ f)
+    | inr r ↦ elim (cases_Bool (is_fresh (worker_at s.workers i))) [
+      | inl f ↦ no_take i least (or_left (is_fresh (worker_at s.workers i)) _ f)
+      | inr nf ↦
+          let mail : rests_with_mail s i ≡ true =
+          and_from (rests (worker_at s.workers i)) (batch_waits (worker_at s.workers i)) r
+          (elim (or_cases (is_fresh (worker_at s.workers i) || is_running (worker_at s.workers i)) (batch_waits (worker_at s.workers i)) least.1) [
+            | inl q ↦ absurd (both q (or_from _ _ nf (t.calm i least.0)))
+            | inr q ↦ q
+          ]) in
+          elim (cases_Bool (delay_is_over sys.settings.policy s.workers s.past i)) [
+            | inl over ↦ no_take i least (or_right (is_fresh (worker_at s.workers i)) _ (and_from (rests_with_mail s i) _ mail over))
+            | inr on ↦ elim (cases_Bool (is_stretched s i)) [
+              | inl st ↦ t.refuses (Hold i) refl (and_from _ _ (lt-ltb i (worker_count s) least.0) (and_from _ _ st (not_from_false _ on)))
+              | inr ns ↦
+                  t.refuses (Stretch i (stretch_from sys s i)) refl
+                  (and_from _ _ (lt-ltb i (worker_count s) least.0)
+                  (and_from _ _ (and_from _ _ (and_from _ _ mail (not_from_false _ ns)) (le-leb (stretch_from sys s i) (stretch_from sys s i) (omega arith))) (le-leb (stretch_from sys s i) (stretch_from sys s i + 64) (omega arith))))
+            ]
+          ]
+    ]
+  ]
+
+  -- a busy worker of least round could go on
+  nobody_is_busy : (i : ℕ) → i < worker_count s → is_busy (worker_at s.workers i) ≡ false
+  nobody_is_busy = elim (least_or_none (λ j. is_busy (worker_at s.workers j)) (slice_index s.rounds) (worker_count s)) [
+    | inl idle ↦ idle
+    | inr k ↦ absurd (no_busy k.0 k.1)
+  ]
+
+  pub all_rest : (i : ℕ) → i < worker_count s → rests_without_mail s i ≡ true
+  all_rest i l =
+      let parts = or_parts (is_fresh (worker_at s.workers i) || is_running (worker_at s.workers i)) (batch_waits (worker_at s.workers i)) (nobody_is_busy i l) in
+      let f = or_parts (is_fresh (worker_at s.workers i)) (is_running (worker_at s.workers i)) parts.0 in
+      and_from _ _ (elim (fresh_or_rests (worker_at s.workers i) f.1) [ inl q ↦ absurd (both q f.0) | inr r ↦ r ]) (not_from_false _ parts.1)
 
 -- no event of a lane and no duty is admitted by its row
 record IsStuck (sys : System) (s : State) (lane : ℕ) : Type 0 where
@@ -180,9 +243,6 @@ module _ (sys : System) (s : State) (lane : ℕ) (t : IsStuck sys s lane) where
     | inr k ↦ t.stuck (Mark k.0) refl (and_from _ _ (worker k.0 k.1) (and_from _ _ (and_from _ _ opened (not_from_false _ k.2)) (not_from_false _ (t.calm k.0 k.1))))
   ]
 
-  closed : recording_is_open s.past ≡ false
-  closed = false_from_ne_true (recording_is_open s.past) not_open
-
   begun_kept : all_begun_are_kept s.past ≡ true
   begun_kept = all_of_kept s.past s.past (λ e b. elim (t.order.begun e b) [ inl q ↦ t.sealed_kept e q | inr q ↦ absurd (not_open q.0) ])
 
@@ -191,94 +251,50 @@ module _ (sys : System) (s : State) (lane : ℕ) (t : IsStuck sys s lane) where
       false_from_ne_true (snapshot_is_due sys s)
       (λ due. t.stuck (Begin (last_epoch s.start.epoch s.past + 1)) refl (and_from _ _ (and_from _ _ due begun_kept) (eq-eqb (last_epoch s.start.epoch s.past + 1) (last_epoch s.start.epoch s.past + 1) refl)))
 
-  free : has_work_out s lane ≡ false
-  free = any_none _ (worker_count s) (λ i l. and_left _ _ (t.calm i l))
+  no_mail : (i : ℕ) → i < worker_count s → rests_without_mail s i ≡ true
+  no_mail =
+      all_rest sys s lane
+      (record {
+        lane_in_range = t.lane_in_range;
+        calm = t.calm;
+        closed = false_from_ne_true (recording_is_open s.past) not_open;
+        not_due = not_due;
+        refuses = λ e h row. t.stuck e (or_left (is_of_lane lane e) (is_duty e) h) row;
+      })
 
-  no_take : (i : ℕ) → IsLeast (λ j. is_busy (worker_at s.workers j)) (slice_index s.rounds) (worker_count s) i →
-      (is_fresh (worker_at s.workers i) || (rests_with_mail s i && delay_is_over sys.settings.policy s.workers s.past i)) ≡ true → ⊥
-  no_take i least ready =
-      t.stuck (Take i lane) (or_left (lane == lane) false (eq-eqb lane lane refl))
-      (and_from _ _ (worker i least.0)
-      (and_from _ _
-      (and_from _ _
-      (and_from _ _
-      (and_from _ _ (and_from _ _ (lt-ltb lane sys.settings.lanes t.lane_in_range) (not_from_false _ free)) ready)
-      (least_is_fresh_enough sys.settings.policy s.workers s.rounds i least))
-      (not_from_false _ not_due))
-      (not_from_false _ (and_left (is_unmarked s i) _ (and_left (recording_is_open s.past) _ closed)))))
-
-  no_busy : (i : ℕ) → IsLeast (λ j. is_busy (worker_at s.workers j)) (slice_index s.rounds) (worker_count s) i → ⊥
-  no_busy i least = elim (fresh_or_rests (worker_at s.workers i) (t.calm i least.0)) [
-    | inl f ↦ no_take i least (or_left (is_fresh (worker_at s.workers i)) _ f)
-    | inr r ↦ elim (cases_Bool (is_fresh (worker_at s.workers i))) [
-      | inl f ↦ no_take i least (or_left (is_fresh (worker_at s.workers i)) _ f)
-      | inr nf ↦
-          let mail : rests_with_mail s i ≡ true =
-          and_from (rests (worker_at s.workers i)) (batch_waits (worker_at s.workers i)) r
-          (elim (or_cases (is_fresh (worker_at s.workers i) || is_running (worker_at s.workers i)) (batch_waits (worker_at s.workers i)) least.1) [
-            | inl q ↦ absurd (both q (or_from _ _ nf (t.calm i least.0)))
-            | inr q ↦ q
-          ]) in
-          elim (cases_Bool (delay_is_over sys.settings.policy s.workers s.past i)) [
-            | inl over ↦ no_take i least (or_right (is_fresh (worker_at s.workers i)) _ (and_from (rests_with_mail s i) _ mail over))
-            | inr on ↦ elim (cases_Bool (is_stretched s i)) [
-              | inl st ↦ t.stuck (Hold i) refl (and_from _ _ (worker i least.0) (and_from _ _ st (not_from_false _ on)))
-              | inr ns ↦
-                  t.stuck (Stretch i (stretch_from sys s i)) refl
-                  (and_from _ _ (worker i least.0)
-                  (and_from _ _ (and_from _ _ (and_from _ _ mail (not_from_false _ ns)) (le-leb (stretch_from sys s i) (stretch_from sys s i) (omega arith))) (le-leb (stretch_from sys s i) (stretch_from sys s i + 64) (omega arith))))
-            ]
-          ]
-    ]
+  all_up : list_all (λ i. flag_is_up i s.past) (numbers_below (worker_count s)) ≡ true
+  all_up = elim (all_or_not (λ i. flag_is_up i s.past) (worker_count s)) [
+    | inl h ↦ h
+    | inr k ↦ absurd (t.stuck (Flag k.0) refl (and_from _ _ (worker k.0 k.1) (and_from _ _ (no_mail k.0 k.1) (not_from_false _ k.2))))
   ]
 
-  -- nobody is busy
-  module _ (idle : (i : ℕ) → i < worker_count s → is_busy (worker_at s.workers i) ≡ false) where
-    no_mail : (i : ℕ) → i < worker_count s → rests_without_mail s i ≡ true
-    no_mail i l =
-        let parts = or_parts (is_fresh (worker_at s.workers i) || is_running (worker_at s.workers i)) (batch_waits (worker_at s.workers i)) (idle i l) in
-        let f = or_parts (is_fresh (worker_at s.workers i)) (is_running (worker_at s.workers i)) parts.0 in
-        and_from _ _ (elim (fresh_or_rests (worker_at s.workers i) f.1) [ inl q ↦ absurd (both q f.0) | inr r ↦ r ]) (not_from_false _ parts.1)
+  asked : was_asked s.past ≡ true
+  asked = elim (cases_Bool (was_asked s.past)) [ inl h ↦ h | inr h ↦ absurd (t.stuck Ask refl (and_from _ _ all_up (or_left (not (was_asked s.past)) _ (not_from_false _ h)))) ]
 
-    all_up : list_all (λ i. flag_is_up i s.past) (numbers_below (worker_count s)) ≡ true
-    all_up = elim (all_or_not (λ i. flag_is_up i s.past) (worker_count s)) [
-      | inl h ↦ h
-      | inr k ↦ absurd (t.stuck (Flag k.0) refl (and_from _ _ (worker k.0 k.1) (and_from _ _ (no_mail k.0 k.1) (not_from_false _ k.2))))
-    ]
+  no_nack : nack_since_ask s.past ≡ false
+  no_nack = false_from_ne_true (nack_since_ask s.past) (λ h. t.stuck Ask refl (and_from _ _ all_up (or_right (not (was_asked s.past)) _ h)))
 
-    asked : was_asked s.past ≡ true
-    asked = elim (cases_Bool (was_asked s.past)) [ inl h ↦ h | inr h ↦ absurd (t.stuck Ask refl (and_from _ _ all_up (or_left (not (was_asked s.past)) _ (not_from_false _ h)))) ]
-
-    no_nack : nack_since_ask s.past ≡ false
-    no_nack = false_from_ne_true (nack_since_ask s.past) (λ h. t.stuck Ask refl (and_from _ _ all_up (or_right (not (was_asked s.past)) _ h)))
-
-    not_all : all_have_answered (worker_count s) s.past ≡ false
-    not_all = false_from_ne_true (all_have_answered (worker_count s) s.past) (λ h. t.stuck End refl (and_from _ _ h begun_kept))
-
-    answer : ⊥
-    answer = elim (all_or_not (λ i. has_answered i s.past) (worker_count s)) [
-      | inl h ↦ both (and_from _ _ asked h) not_all
-      | inr k ↦
-          let opened = and_from _ _ (and_from _ _ asked (not_from_false _ no_nack)) (not_from_false _ not_all) in
-          let may = and_from _ _ opened (not_from_false _ k.2) in
-          let idle_here = no_mail k.0 k.1 in
-          elim (cases_Bool (took_since_ask k.0 s.past)) [
-            | inl took ↦
-                t.stuck (Nack k.0) refl
-                (and_from _ _ (worker k.0 k.1) (and_from _ _ (and_from _ _ may (and_parts (rests (worker_at s.workers k.0)) _ idle_here).0) (or_right (batch_waits (worker_at s.workers k.0)) _ took)))
-            | inr not_took ↦ t.stuck (Ack k.0) refl (and_from _ _ (worker k.0 k.1) (and_from _ _ (and_from _ _ may idle_here) (not_from_false _ not_took)))
-          ]
-    ]
+  not_all : all_have_answered (worker_count s) s.past ≡ false
+  not_all = false_from_ne_true (all_have_answered (worker_count s) s.past) (λ h. t.stuck End refl (and_from _ _ h begun_kept))
 
   never_stuck : ⊥
-  never_stuck = elim (least_or_none (λ j. is_busy (worker_at s.workers j)) (slice_index s.rounds) (worker_count s)) [
-    | inl idle ↦ answer idle
-    | inr k ↦ no_busy k.0 k.1
+  never_stuck = elim (all_or_not (λ i. has_answered i s.past) (worker_count s)) [
+    | inl h ↦ both (and_from _ _ asked h) not_all
+    | inr k ↦
+        let opened = and_from _ _ (and_from _ _ asked (not_from_false _ no_nack)) (not_from_false _ not_all) in
+        let may = and_from _ _ opened (not_from_false _ k.2) in
+        let idle_here = no_mail k.0 k.1 in
+        elim (cases_Bool (took_since_ask k.0 s.past)) [
+          | inl took ↦
+              t.stuck (Nack k.0) refl
+              (and_from _ _ (worker k.0 k.1) (and_from _ _ (and_from _ _ may (and_parts (rests (worker_at s.workers k.0)) _ idle_here).0) (or_right (batch_waits (worker_at s.workers k.0)) _ took)))
+          | inr not_took ↦ t.stuck (Ack k.0) refl (and_from _ _ (worker k.0 k.1) (and_from _ _ (and_from _ _ may idle_here) (not_from_false _ not_took)))
+        ]
   ]
 
 -- ---- the first that is admitted
 
-abbrev AreRefused : System → State → List Event → Type 0
+abbrev pub AreRefused : System → State → List Event → Type 0
 AreRefused sys s = AllByRecursion (λ e. is_admitted sys s e ≡ false)
 
 first_or_none : (sys : System) (s : State) (es : List Event) → ((e : Event) × (first_admitted sys s es ≡ Some e)) ⊎ ((first_admitted sys s es ≡ None) × AreRefused sys s es)
@@ -291,17 +307,17 @@ first_or_none sys s (e ∷ es) = go (is_admitted sys s e) refl (first_or_none sy
     go false h (inl k) = inl (k.0, ap (λ b. if b then Some e else first_admitted sys s es) h ∙ k.1)
     go false h (inr k) = inr (ap (λ b. if b then Some e else first_admitted sys s es) h ∙ k.0, (h, k.1))
 
-some-none : {X : Type 0} (o : Option X) (x : X) → o ≡ Some x → o ≡ None → ⊥
+pub some-none : {X : Type 0} (o : Option X) (x : X) → o ≡ Some x → o ≡ None → ⊥
 some-none o x h k = false≢true (ap (λ q. elim q as (λ _. Bool) [ None ↦ false | Some y ↦ true ]) (sym k ∙ h))
 
 some-some : (a b : Event) → Some a ≡ Some b → a ≡ b
 some-some a b h = ap (λ (o : Option Event). elim o as (λ _. Event) [ None ↦ a | Some x ↦ x ]) h
 
-refused : (sys : System) (s : State) (es : List Event) → first_admitted sys s es ≡ None → AreRefused sys s es
+pub refused : (sys : System) (s : State) (es : List Event) → first_admitted sys s es ≡ None → AreRefused sys s es
 refused sys s es h = elim (first_or_none sys s es) [ inl k ↦ absurd (some-none _ k.0 k.1 h) | inr k ↦ k.1 ]
 
 -- what is found is admitted, and has what all of the list have
-found : (sys : System) (s : State) (P : Event → Type 0) (es : List Event) (e : Event) → AllByRecursion P es → first_admitted sys s es ≡ Some e → (is_admitted sys s e ≡ true) × P e
+pub found : (sys : System) (s : State) (P : Event → Type 0) (es : List Event) (e : Event) → AllByRecursion P es → first_admitted sys s es ≡ Some e → (is_admitted sys s e ≡ true) × P e
 found sys s P [] e all h = absurd (some-none None e h refl)
 found sys s P (x ∷ es) e all h = go (is_admitted sys s x) refl (found sys s P es e all.1)
   where
@@ -339,7 +355,7 @@ map_append : (f : ℕ → Event) (xs ys : List ℕ) → map f (xs ++ ys) ≡ map
 map_append f [] ys = refl
 map_append f (x ∷ xs) ys = ap (λ l. f x ∷ l) (map_append f xs ys)
 
-turn_at : (P : Event → Type 0) (f : ℕ → Event) (n : ℕ) (past : List Event) → AllByRecursion P (map f (in_turn n past)) → (i : ℕ) → i < n → P (f i)
+pub turn_at : (P : Event → Type 0) (f : ℕ → Event) (n : ℕ) (past : List Event) → AllByRecursion P (map f (in_turn n past)) → (i : ℕ) → i < n → P (f i)
 turn_at P f n past h i l =
     let c = first_in_turn n past in
     let h' : AllByRecursion P (map f (range_with_len c (n - c)) ++ map f (numbers_below c)) = subst (AllByRecursion P) (map_append f (range_with_len c (n - c)) (numbers_below c)) h in

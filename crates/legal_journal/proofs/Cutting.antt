@@ -28,7 +28,7 @@ pub record IsGrounded (n : ℕ) (s : State) : Type 0 where
   pub records : length s.recorded ≡ n
   pub order : IsInOrder s
 
-recorded_length : (n : ℕ) (sys : System) (s : State) (e : Event) → worker_count s ≡ n → length s.recorded ≡ n → length (recorded_after sys s e) ≡ n
+pub recorded_length : (n : ℕ) (sys : System) (s : State) (e : Event) → worker_count s ≡ n → length s.recorded ≡ n → length (recorded_after sys s e) ≡ n
 recorded_length n sys s (Give i) c h = length-map-range_with_len (recorded_with_late sys s i) 0 (worker_count s) ∙ c
 recorded_length n sys s (Mark i) c h = length-set s.recorded i _ ∙ h
 recorded_length n sys s (Take i k) c h = h

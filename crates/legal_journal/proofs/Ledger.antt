@@ -505,7 +505,7 @@ pays_snapshot (Seal d) = 1
 pays_snapshot (Kept d) = 1
 pays_snapshot _ = 0
 
-takes-more : (e : Event) (past : List Event) → takes_since_begin (e ∷ past) ≡ cond (not (is_begin e)) (cond (is_take e) 1 0 + takes_since_begin past) 0
+pub takes-more : (e : Event) (past : List Event) → takes_since_begin (e ∷ past) ≡ cond (not (is_begin e)) (cond (is_take e) 1 0 + takes_since_begin past) 0
 takes-more e past = ap (count_by is_take) (take_while-cons (λ x. not (is_begin x)) e past) ∙ go (not (is_begin e))
   where
     go : (b : Bool) → count_by is_take (cond b (e ∷ take_while (λ x. not (is_begin x)) past) []) ≡ cond b (cond (is_take e) 1 0 + takes_since_begin past) 0

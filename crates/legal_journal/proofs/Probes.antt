@@ -286,7 +286,7 @@ probe_kept n sys s (Stop c) h p = inert_keeps n sys s (Stop c) (inert sys s (Sto
 
 -- ---- the end
 
-quiet_from : (ws : BaseState) → ((i : ℕ) → i < length ws → (rests (worker_at ws i) && not (batch_waits (worker_at ws i))) ≡ true) → is_quiet ws ≡ true
+pub quiet_from : (ws : BaseState) → ((i : ℕ) → i < length ws → (rests (worker_at ws i) && not (batch_waits (worker_at ws i))) ≡ true) → is_quiet ws ≡ true
 quiet_from [] h = refl
 quiet_from (w ∷ ws) h = and_from _ _ (h 0 (omega arith)) (quiet_from ws (λ i l. h (suc i) (omega (arith, l))))
 
