@@ -1,39 +1,24 @@
 -- One lane's turns leave nobody out.
-use Rattle.std.proofs.Common.{◌≡◌, ◌≢◌, ℕ, zero, suc, ◌+◌, ◌<◌, ◌≤◌, ◌⊎◌, inl, inr, Bool, true, false, not, ◌&&◌, ◌==◌, if◌then◌else◌, IsTrue, refl, sym, ◌∙◌, ap, subst, arith, List, [], ◌∷◌, ◌++◌, length, map, slice_index_or, Option, Some, None}
-use Rattle.std.specs.List.{list_any, range_with_len, AllByRecursion}
-use Rattle.std.proofs.lemmas.Bool.{cases_eq, eq-eqb, ne_eqb, and_left, or_from, false≢true}
+use Rattle.std.proofs.Common.{◌≡◌, ◌≢◌, ℕ, zero, suc, ◌+◌, ◌<◌, inl, inr, false, if◌then◌else◌, refl, sym, ◌∙◌, ap, subst, arith, List, [], ◌∷◌, length, map}
+use Rattle.std.proofs.lemmas.Bool.{cases_eq, eq-eqb, ne_eqb, and_left, false≢true}
 use Rattle.std.proofs.lemmas.List.{length-map}
 use Rattle.graph_core.specs.Fragments.{Piece, piece_at, numbers_below}
 use Rattle.grape_event.specs.declared.event.Event.{Event}
-use Rattle.grape_event.specs.declared.event.Event.TheVariants.{Take, Give, Stretch}
+use Rattle.grape_event.specs.declared.event.Event.TheVariants.{Take, Give, Stretch, Hold, Flag, Ask, Ack, Nack, Begin, Mark, Seal, Kept, End, Stop}
 use Rattle.grape_event.specs.Events.{is_take}
-use Rattle.token_cut.specs.Parts.{PartValues}
-use Rattle.base_machine.specs.Machine.{System, BaseState, Worker, BaseTake, BaseGive, Post, worker_at, is_running, no_worker, after_taking, after_giving, after_receiving, sent_to, fresh_part, worker_of, base_state_of, standing_of}
+use Rattle.base_machine.specs.Machine.{System, BaseState, Worker, BaseTake, BaseGive, Post, worker_at, is_running, after_taking, after_giving, after_receiving, sent_to, fresh_part, worker_of, base_state_of}
 use Rattle.base_machine.proofs.Swapping.{after-length, after-at}
-use Rattle.legal_journal.specs.Past.{gives_of_each, lane_of}
-use Rattle.legal_journal.specs.Legal.{State, worker_count, has_work_out, state_after, state_at_end}
-use Rattle.grape_hub.specs.HubValues.{HubValues}
-use Rattle.grape_hub.specs.States.{machine, beginning, state_of, workers_of, is_built, IsHub}
-use Rattle.grape_hub.specs.Calls.{Appended}
-use Rattle.grape_hub.specs.Theorems.{IsCalm, CalmIsFree, CalmAtBeginning, CalmAfterTurn, CalmAfterOther}
+use Rattle.legal_journal.specs.Past.{gives_of_each}
+use Rattle.legal_journal.specs.Legal.{State, worker_count, state_after, state_at_end}
+use Rattle.legal_journal.proofs.Choosing.{any_none}
+use Rattle.grape_hub.specs.States.{machine, beginning, state_of, workers_of}
+use Rattle.grape_hub.specs.Theorems.{CalmIsFree, CalmAtBeginning, CalmAfterTurn, CalmAfterOther}
 use Rattle.grape_hub.proofs.Hubs.{state_grown}
-use Rattle.grape_hub.proofs.Idling.{built_cases}
 
 -- ---- nobody is out
 
-none_from : (test : ℕ → Bool) (a n : ℕ) → ((i : ℕ) → i < n → test (a + i) ≡ false) → list_any test (range_with_len a n) ≡ false
-none_from test a zero h = refl
-none_from test a (suc n) h =
-    let e : a + 0 ≡ a = omega arith in
-    let first = sym (ap test e) ∙ h 0 (omega arith) in
-    let rest = none_from test (a + 1) n (λ i l. let q : a + 1 + i ≡ a + suc i = omega arith in ap test q ∙ h (suc i) (omega (arith, l))) in
-    or_from (test a) _ first rest
-
-none_and : (run other : ℕ → Bool) (n : ℕ) → ((i : ℕ) → i < n → run i ≡ false) → list_any (λ i. run i && other i) (numbers_below n) ≡ false
-none_and run other n h = none_from (λ i. run i && other i) 0 n (λ i l. let e : 0 + i ≡ i = omega arith in and_left (run (0 + i)) (other (0 + i)) (ap run e ∙ h i l))
-
 pub calm_is_free : CalmIsFree
-calm_is_free h lane calm = none_and (λ i. is_running (worker_at (state_of h).workers i)) _ (worker_count (state_of h)) calm
+calm_is_free h lane calm = any_none _ (worker_count (state_of h)) (λ i l. and_left _ _ (calm i l))
 
 -- ---- at the beginning
 
@@ -95,24 +80,29 @@ calm_after_turn old taken given i lane hub calm took hub-2 gave hub-3 k l =
     ap (λ (q : State). is_running (worker_at q.workers k)) grown-2
     ∙ after_give (machine taken) t i k below-t (λ n. ap (λ (q : State). is_running (worker_at q.workers k)) grown ∙ after_take (machine old) s i lane k below-s n (calm k below-s))
 
+-- an event that is no Take leaves nobody out
+still_calm : (sys : System) (s : State) (e : Event) → is_take e ≡ false → ((i : ℕ) → i < worker_count s → is_running (worker_at s.workers i) ≡ false) →
+    (i : ℕ) → i < worker_count (state_after sys s e) → is_running (worker_at (state_after sys s e).workers i) ≡ false
+still_calm sys s (Take j k) quiet calm i l = absurd (false≢true (sym quiet))
+still_calm sys s (Give j) quiet calm i l =
+    let many = after-length sys s.workers (BaseGive j) in
+    let below : i < length s.workers = omega (arith, l, many) in
+    after_give sys s j i below (λ n. calm i below)
+still_calm sys s (Stretch j t) quiet calm i l = calm i l
+still_calm sys s (Hold j) quiet calm i l = calm i l
+still_calm sys s (Flag j) quiet calm i l = calm i l
+still_calm sys s Ask quiet calm i l = calm i l
+still_calm sys s (Ack j) quiet calm i l = calm i l
+still_calm sys s (Nack j) quiet calm i l = calm i l
+still_calm sys s (Begin e) quiet calm i l = calm i l
+still_calm sys s (Mark j) quiet calm i l = calm i l
+still_calm sys s (Seal e) quiet calm i l = calm i l
+still_calm sys s (Kept e) quiet calm i l = calm i l
+still_calm sys s End quiet calm i l = calm i l
+still_calm sys s (Stop c) quiet calm i l = calm i l
+
 pub calm_after_other : CalmAfterOther
-calm_after_other old new e hub calm not_take more hub-2 =
-    built_cases (λ x. is_take x ≡ false → Appended old x new → IsCalm new)
-    (λ i k no m. absurd (false≢true (sym no)))
-    (λ i no m k l.
-    let s = state_of old in
-    let grown = state_grown old new (Give i) m in
-    let many = after-length (machine old) s.workers (BaseGive i) in
-    let a = ap (λ (q : State). length q.workers) grown in
-    let below : k < length s.workers = omega (arith, l, a, many) in
-    ap (λ (q : State). is_running (worker_at q.workers k)) grown ∙ after_give (machine old) s i k below (λ n. calm k below))
-    (λ i turns z no m k l.
-    let s = state_of old in
-    let grown = state_grown old new (Stretch i turns) m in
-    let a = ap (λ (q : State). length q.workers) grown in
-    ap (λ (q : State). is_running (worker_at q.workers k)) grown ∙ calm k (omega (arith, l, a)))
-    e (last_built old.journal.events e (subst (AllByRecursion (λ x. is_built x ≡ true)) more.2 hub-2.built)) not_take more
-  where
-    last_built : (es : List Event) (e : Event) → AllByRecursion (λ x. is_built x ≡ true) (es ++ e ∷ []) → is_built e ≡ true
-    last_built [] e h = h.0
-    last_built (x ∷ es) e h = last_built es e h.1
+calm_after_other old new e hub calm not_take more hub-2 k l =
+    let grown = state_grown old new e more in
+    let a = ap (λ (q : State). worker_count q) grown in
+    ap (λ (q : State). is_running (worker_at q.workers k)) grown ∙ still_calm (machine old) (state_of old) e not_take calm k (omega (arith, l, a))

@@ -1,15 +1,14 @@
 -- The first tables of a hub show the state in which its run begins.
-use Rattle.std.proofs.Common.{◌≡◌, ℕ, zero, suc, ◌+◌, ◌*◌, ◌<◌, ◌≤◌, Bool, true, false, if◌then◌else◌, refl, sym, ◌∙◌, ap, subst, arith, List, [], ◌∷◌, ◌++◌, length, map, take, replicate, count_by, sum_by, slice_index_or, slice_get, Some}
+use Rattle.std.proofs.Common.{◌≡◌, ℕ, ◌+◌, ◌*◌, ◌<◌, ◌≤◌, true, false, if◌then◌else◌, refl, sym, ◌∙◌, ap, subst, arith, List, [], ◌∷◌, ◌++◌, length, map, take, replicate, sum_by, slice_index_or}
 use Rattle.std.proofs.lemmas.Bool.{eq-eqb}
 use Rattle.std.proofs.lemmas.Option.{slice_get_within, get_or_from_slice_get}
-use Rattle.std.proofs.lemmas.List.{length-map, length-append, length-replicate, length-take-le, get_or-map}
+use Rattle.std.proofs.lemmas.List.{length-map, length-append, length-replicate, length-take-le, get_or-map, get_or-replicate}
 use Rattle.std.proofs.lemmas.List.Sums.{sum_by-cons}
 use Rattle.std.proofs.lemmas.List.Folds.{sum_by-replicate}
 use Rattle.std.proofs.lemmas.List.FromFn.{length-range_with_len, length-map-range_with_len, get_or-map-range_with_len}
 use Rattle.std.proofs.lemmas.Simd.{splat_is_map}
 use Rattle.value_order.specs.declared.order.Order.{Order}
 use Rattle.value_order.specs.declared.TheConstants.{NOTHING}
-use Rattle.graph_core.specs.declared.settings.Policy.TheVariants.{Ap}
 use Rattle.graph_core.specs.declared.fragment.Route.{Route}
 use Rattle.graph_core.specs.declared.job.Job.{Job}
 use Rattle.graph_core.specs.Graphs.{IsJob}
@@ -17,13 +16,18 @@ use Rattle.graph_core.specs.Parts.{FragmentLists}
 use Rattle.graph_core.specs.Equations.{Equations}
 use Rattle.graph_core.specs.Queries.{equations_of}
 use Rattle.graph_core.specs.Fragments.{Piece, no_piece, piece_at, piece_of, pieces_of, places, numbers_below, fragment_of, fragments_of}
+use Rattle.grape_event.specs.declared.event.Event.{Event}
 use Rattle.grape_event.specs.JournalList.{JournalList}
+use Rattle.token_cut.specs.Parts.{SnapshotParts}
+use Rattle.legal_journal.specs.Delays.{window}
+use Rattle.stop_probe.specs.ProbeValues.{ProbeValues}
+use Rattle.stop_probe.specs.Probe.{new_probe}
+use Rattle.stop_probe.specs.Journals.{probe_of}
+use Rattle.stop_probe.proofs.Following.{follows_events}
 use Rattle.grape_event.specs.Journals.{new_journal}
 use Rattle.message_buffer.specs.Buffers.{new_buffer}
-use Rattle.message_buffer.specs.Hands.{new_hand}
-use Rattle.pie_core.specs.LocalCalls.{new_local, loaded}
 use Rattle.pie_core.specs.Solutions.{starts_of}
-use Rattle.base_machine.specs.Machine.{System, Worker, Batch, no_worker, worker_at, is_fresh, is_running, worker_of, fresh_part, posts_from, posts_in, pending_posts, met_posts, is_empty, batches_waiting}
+use Rattle.base_machine.specs.Machine.{System, system_of, fresh_snapshot, Worker, Batch, no_worker, worker_at, is_fresh, is_running, worker_of, fresh_part, posts_from, pending_posts, met_posts, is_empty, batches_waiting}
 use Rattle.base_machine.proofs.Posts.{no_queued}
 use Rattle.legal_journal.proofs.Probes.{start_length}
 use Rattle.grape_hub.specs.declared.desk.Desk.{Desk}
@@ -131,6 +135,7 @@ module _ (job : Job) (counters i : ℕ) (i_in : i < job.settings.fragments) wher
       let hand = replicate (length piece.mirrors) NOTHING in
       let there = sym worker_here in
       let piece_there = sym piece_here in
+      let parts = part_count (first_hub job counters) in
       record {
         seat = (
           subst (λ (w : Worker). is_running w ≡ false) there refl,
@@ -140,8 +145,9 @@ module _ (job : Job) (counters i : ℕ) (i_in : i < job.settings.fragments) wher
           refl,
           subst (λ (p : Piece). HasSizes p counters before counts hand) piece_there sizes,
         );
-        stretched = refl;
-        no_turns = λ turns place h. absurd (cc h);
+        delay = refl;
+        round = sym (get_or-replicate count i 0 0 (omega (arith, i_in, parts)));
+        pulse = ap (λ (l : List ℕ). window l) (sym (get_or-replicate {A = List ℕ} count i [] [] (omega (arith, i_in, parts))));
         buffer = buffer_is ∙ λ t. buffer_of sys (piece_there t) (there t);
       }
 
@@ -151,9 +157,9 @@ same_routes : (job : Job) (is : List ℕ) → map (λ (part : FragmentLists). pa
 same_routes job [] = refl
 same_routes job (i ∷ is) = ap (λ (l : List (List (List Route))). (fragment_of job i).routes ∷ l) (same_routes job is)
 
-pub tables_fit : (job : Job) (counters : ℕ) (routes : List (List (List Route))) (desks : List Desk) → routes ≡ map (λ part. part.routes) (fragments_of job) → desks ≡ map (new_desk job (equations_of job).order counters) (fragments_of job) →
-    TablesFit (machine (first_hub job counters)) (state_of (first_hub job counters)) counters routes desks 0
-tables_fit job counters routes desks routes_are desks_are =
+pub tables_fit : (job : Job) (counters : ℕ) (routes : List (List (List Route))) (desks : List Desk) (probe : ProbeValues) → routes ≡ map (λ part. part.routes) (fragments_of job) → desks ≡ map (new_desk job (equations_of job).order counters) (fragments_of job) →
+    probe ≡ new_probe job.settings.fragments → TablesFit (machine (first_hub job counters)) (state_of (first_hub job counters)) counters routes desks probe 0
+tables_fit job counters routes desks probe routes_are desks_are probe_is =
     let h = first_hub job counters in
     let n = job.settings.fragments in
     let parts : length (fragments_of job) ≡ n = length-map-range_with_len (fragment_of job) 0 n in
@@ -162,6 +168,7 @@ tables_fit job counters routes desks routes_are desks_are =
     record {
       are_routes = routes_are ∙ same_routes job (numbers_below n);
       count = many ∙ sym (start_length (beginning h) ∙ part_count h);
+      is_probe = probe_is ∙ (sym (follows_events n).0 ∙ ap (λ m. probe_of m []) (sym (start_length (beginning h) ∙ part_count h)));
       is_turn = refl;
       fit = λ i d found.
           let inside = slice_get_within desks i d found in
@@ -183,25 +190,27 @@ nobody_out e n (piece ∷ pieces) =
     let again = nobody_out e n pieces in
     omega (arith, more, again)
 
-pub first_is_hub : (job : Job) (counters : ℕ) → IsJob job → job.settings.policy ≡ Ap → job.settings.snapshot ≡ 0 → IsHub (first_hub job counters)
-first_is_hub job counters is_job policy snapshot =
+pub first_is_hub : (job : Job) (counters spare : ℕ) → IsJob job → job.settings.snapshot ≡ 0 → 1 ≤ spare → IsHub (record { job = job; counters = counters; journal = record { events = []; spare = spare } })
+first_is_hub job counters spare is_job snapshot one =
     let none = nobody_out (equations_of job) (length (beginning (first_hub job counters)).parts) (pieces_of job) in
-    record { job = is_job; policy = policy; snapshot = snapshot; legal = refl; built = tt; room = omega (arith, none) }
+    record { job = is_job; snapshot = snapshot; legal = refl; built = tt; room = λ going. omega (arith, none, one) }
 
 -- What a hub keeps holds of a first one, whose parts were made as this says. The program is for a job and has so many counters for it.
-pub opens : (is_for : Job → Type 0) (counters_for : Job → ℕ) (job copy : Job) (journal : JournalList) (counters : ℕ) (order : Order) (fragments : List FragmentLists) (routes : List (List (List Route))) (desks : List Desk) →
-    IsJob job → is_for job → job.settings.policy ≡ Ap → job.settings.snapshot ≡ 0 → fragments ≡ fragments_of job → order ≡ (equations_of job).order → counters ≡ counters_for job →
-    routes ≡ map (λ part. part.routes) fragments → desks ≡ map (new_desk job order counters) fragments → copy ≡ job → journal ≡ new_journal →
+pub opens : (is_for : Job → Type 0) (counters_for : Job → ℕ) (job copy : Job) (journal : JournalList) (counters : ℕ) (order : Order) (fragments : List FragmentLists) (routes : List (List (List Route))) (desks : List Desk) (probe : ProbeValues) (start : SnapshotParts) →
+    IsJob job → is_for job → job.settings.snapshot ≡ 0 → fragments ≡ fragments_of job → order ≡ (equations_of job).order → counters ≡ counters_for job →
+    routes ≡ map (λ part. part.routes) fragments → desks ≡ map (new_desk job order counters) fragments → probe ≡ new_probe job.settings.fragments → start ≡ fresh_snapshot (system_of job) → copy ≡ job → journal.events ≡ [] → 1 ≤ journal.spare →
     let h : HubValues = record { job = copy; counters = counters_for copy; journal = journal } in
-    is_for copy × IsHub h × TablesFit (machine h) (state_of h) (counters_for copy) routes desks 0
-opens is_for counters_for job copy journal counters order fragments routes desks is_job for_job policy snapshot parts same_order same_counters routes_are desks_are same_job same_journal =
-    let Kept : Job → JournalList → Type 0 =
-    λ j k. is_for j × IsHub (record { job = j; counters = counters_for j; journal = k })
-    × TablesFit (machine (record { job = j; counters = counters_for j; journal = k })) (state_of (record { job = j; counters = counters_for j; journal = k })) (counters_for j) routes desks 0 in
+    is_for copy × IsHub h × TablesFit (machine h) (state_of h) (counters_for copy) routes desks probe 0 × (start ≡ beginning h)
+opens is_for counters_for job copy journal counters order fragments routes desks probe start is_job for_job snapshot parts same_order same_counters routes_are desks_are probe_is start_is same_job no_events one =
+    let Kept : Job → List Event → Type 0 =
+    λ j es. is_for j × IsHub (record { job = j; counters = counters_for j; journal = record { events = es; spare = journal.spare } })
+    × TablesFit (machine (record { job = j; counters = counters_for j; journal = record { events = es; spare = journal.spare } })) (state_of (record { job = j; counters = counters_for j; journal = record { events = es; spare = journal.spare } })) (counters_for j) routes desks probe 0
+    × (start ≡ beginning (record { job = j; counters = counters_for j; journal = record { events = es; spare = journal.spare } })) in
     let made : desks ≡ map (new_desk job (equations_of job).order (counters_for job)) (fragments_of job) = desks_are ∙ λ t. map (new_desk job (same_order t) (same_counters t)) (parts t) in
-    let first : Kept job new_journal = (
+    let first : Kept job [] = (
       for_job,
-      first_is_hub job (counters_for job) is_job policy snapshot,
-      tables_fit job (counters_for job) routes desks (routes_are ∙ ap (map (λ part. part.routes)) parts) made,
+      first_is_hub job (counters_for job) journal.spare is_job snapshot one,
+      tables_fit job (counters_for job) routes desks probe (routes_are ∙ ap (map (λ part. part.routes)) parts) made probe_is,
+      start_is,
     ) in
-    subst (λ j. Kept j journal) (sym same_job) (subst (Kept job) (sym same_journal) first)
+    subst (λ j. Kept j journal.events) (sym same_job) (subst (Kept job) (sym no_events) first)

@@ -1,10 +1,10 @@
 -- A Give keeps the hub's tables fitting the state.
-use Rattle.std.proofs.Common.{◌≡◌, ◌≢◌, ℕ, zero, suc, ◌+◌, ◌-◌, ◌^◌, ◌<◌, inl, inr, false, if◌then◌else◌, refl, sym, ◌∙◌, ap, subst, arith, List, [], ◌∷◌, length, length-append, length-take, length-set, take, slice_get, slice_set, slice_index, slice_index_or, Contains, All, Some}
+use Rattle.std.proofs.Common.{◌≡◌, ◌≢◌, ℕ, zero, suc, ◌+◌, ◌-◌, ◌^◌, ◌<◌, inl, inr, Bool, true, false, not, ◌==◌, ◌&&◌, max, if◌then◌else◌, refl, sym, ◌∙◌, ap, subst, arith, List, [], ◌∷◌, length, length-append, length-take, length-set, take, slice_get, slice_set, slice_index, slice_index_or, Contains, All, Some, None}
 use Rattle.std.specs.List.{AllByRecursion}
 use Rattle.std.proofs.lemmas.Bool.{eq-eqb, ne_eqb, cases_eq}
 use Rattle.std.proofs.lemmas.List.{length-map, get_or-map, get_or-take, get_or-set_same, get_or-set_other}
 use Rattle.std.proofs.lemmas.List.Elements.{Contains-get_or, All-from_get_or}
-use Rattle.std.proofs.lemmas.List.FromFn.{length-range_with_len}
+use Rattle.std.proofs.lemmas.List.FromFn.{length-range_with_len, get_or-map-range_with_len}
 use Rattle.std.proofs.lemmas.Option.{slice_get-get_or, slice_get_within, get_or_from_slice_get}
 use Rattle.value_order.specs.declared.TheConstants.{NOTHING}
 use Rattle.value_order.specs.Order.{Below, meet_all}
@@ -19,23 +19,31 @@ use Rattle.message_buffer.specs.Buffers.{batches_in}
 use Rattle.message_buffer.specs.HandValues.{HandValues}
 use Rattle.pie_core.specs.Locals.{LocalValues}
 use Rattle.pie_core.specs.LocalCalls.{settled}
-use Rattle.base_machine.specs.Machine.{System, BaseGive, Standing, Worker, Post, worker_at, is_fresh, is_running, pending_posts, values_for, met_posts, posts_to, values_given, sent_to, after_giving, after_receiving}
+use Rattle.base_machine.specs.Machine.{System, BaseGive, Standing, Worker, Post, worker_at, is_fresh, is_running, pending_posts, values_for, met_posts, posts_to, values_given, sent_to, after_giving, after_receiving, is_empty}
 use Rattle.base_machine.specs.Fitness.{IsFit}
 use Rattle.base_machine.specs.Theorems.{IsSound}
 use Rattle.base_machine.proofs.Giving.{ys-length, ys-below}
 use Rattle.base_machine.proofs.Receiving.{posts_from_changes}
 use Rattle.base_machine.proofs.Swapping.{after-length, after-at, as_before}
-use Rattle.legal_journal.specs.Legal.{State, worker_count, state_after}
+use Rattle.legal_journal.specs.Delays.{window}
+use Rattle.legal_journal.specs.Legal.{State, worker_count, state_after, round_after, arrivals_at, rests_without_mail}
 use Rattle.legal_journal.specs.Choices.{first_in_turn}
 use Rattle.legal_journal.proofs.Journals.{AreCounted}
+use Rattle.delay_stretch.specs.Arrivals.{IsNotBelowLast}
+use Rattle.stop_probe.specs.ProbeValues.{ProbeValues}
+use Rattle.stop_probe.specs.Journals.{probe_of}
+use Rattle.stop_probe.proofs.Following.{follows_events}
 use Rattle.grape_hub.specs.declared.desk.Desk.{Desk}
 use Rattle.grape_hub.specs.declared.desk.Seat.{Seat}
 use Rattle.grape_hub.specs.declared.desk.Seat.TheVariants.{Here, Out}
-use Rattle.grape_hub.specs.Desks.{DeskFits, SeatFits, TablesFit, HasSizes, buffer_of}
-use Rattle.grape_hub.specs.Posting.{with_batch_of, posted_from, posted, mirror_counts, LeadToDesks, ChangesAreValues, HaveRoom}
+use Rattle.grape_hub.specs.declared.sender.Sender.{Sender}
+use Rattle.grape_hub.specs.Desks.{DeskFits, SeatFits, TablesFit, HasSizes, buffer_of, turns_and_place, rested_desk}
+use Rattle.grape_hub.specs.Posting.{with_batch_of, posted_from, posted, mirror_counts, LeadToDesks, ChangesAreValues, CanReceive, AllCanReceive}
 use Rattle.grape_hub.proofs.Mailing.{mirrors_there}
-use Rattle.grape_hub.proofs.Receipts.{received_buffer, posts_to-take}
+use Rattle.grape_hub.proofs.Receipts.{received_buffer, seat_stays, posts_to-take}
+use Rattle.grape_hub.proofs.Rounds.{rests_here, round_received, pulse_received}
 use Rattle.grape_hub.proofs.Waiting.{FewWait}
+use Rattle.grape_hub.proofs.Clocks.{AreInTime}
 
 -- ---- desks in their places
 
@@ -44,21 +52,21 @@ desk_there [] j h = absurd (omega (arith, h))
 desk_there (d ∷ desks) zero h = (d, refl)
 desk_there (d ∷ desks) (suc j) h = desk_there desks j (omega (arith, h))
 
-posted_at : (k : ℕ) (old new : List ℕ) (routes : List (List Route)) (desks : List Desk) (j : ℕ) (d : Desk) → slice_get (posted_from k old new routes desks) j ≡ Some d →
-    (e : Desk) × (slice_get desks j ≡ Some e) × (d ≡ record e { buffer = with_batch_of (posts_to (k + j) old new routes) e.buffer })
-posted_at k old new routes [] j d h = cc
-posted_at k old new routes (e ∷ desks) zero d h =
-    let first : record e { buffer = with_batch_of (posts_to k old new routes) e.buffer } ≡ d = cc in
+posted_at : (sender : Sender) (k : ℕ) (old new : List ℕ) (routes : List (List Route)) (desks : List Desk) (j : ℕ) (d : Desk) → slice_get (posted_from sender k old new routes desks) j ≡ Some d →
+    (e : Desk) × (slice_get desks j ≡ Some e) × (d ≡ with_batch_of sender (posts_to (k + j) old new routes) e)
+posted_at sender k old new routes [] j d h = cc
+posted_at sender k old new routes (e ∷ desks) zero d h =
+    let first : with_batch_of sender (posts_to k old new routes) e ≡ d = cc in
     let here : k ≡ k + 0 = omega arith in
-    (e, refl, sym first ∙ ap (λ n. record e { buffer = with_batch_of (posts_to n old new routes) e.buffer }) here)
-posted_at k old new routes (e ∷ desks) (suc j) d h =
-    let rest = posted_at (k + 1) old new routes desks j d h in
+    (e, refl, sym first ∙ ap (λ n. with_batch_of sender (posts_to n old new routes) e) here)
+posted_at sender k old new routes (e ∷ desks) (suc j) d h =
+    let rest = posted_at sender (k + 1) old new routes desks j d h in
     let there : k + 1 + j ≡ k + suc j = omega arith in
-    (rest.0, rest.1, rest.2 ∙ ap (λ n. record rest.0 { buffer = with_batch_of (posts_to n old new routes) rest.0.buffer }) there)
+    (rest.0, rest.1, rest.2 ∙ ap (λ n. with_batch_of sender (posts_to n old new routes) rest.0) there)
 
-pub posted_length : (k : ℕ) (old new : List ℕ) (routes : List (List Route)) (desks : List Desk) → length (posted_from k old new routes desks) ≡ length desks
-posted_length k old new routes [] = refl
-posted_length k old new routes (d ∷ desks) = let e = posted_length (k + 1) old new routes desks in omega (arith, e)
+pub posted_length : (sender : Sender) (k : ℕ) (old new : List ℕ) (routes : List (List Route)) (desks : List Desk) → length (posted_from sender k old new routes desks) ≡ length desks
+posted_length sender k old new routes [] = refl
+posted_length sender k old new routes (d ∷ desks) = let e = posted_length sender (k + 1) old new routes desks in omega (arith, e)
 
 put_here : (desks : List Desk) (i : ℕ) (d e : Desk) → slice_get (slice_set desks i d) i ≡ Some e → i < length desks → e ≡ d
 put_here desks i d e h l = sym (get_or_from_slice_get (slice_set desks i d) i e e h) ∙ get_or-set_same desks i d e l
@@ -75,19 +83,19 @@ none_of (p ∷ posts) h = absurd h.0
 -- ---- the Give
 
 -- worker i may give these values, in a sound system with this greatest solution; the tables show the state
-pub record CanGive (sys : System) (g : Assignment) (s : State) (counters : ℕ) (routes : List (List (List Route))) (desks : List Desk) (turn i : ℕ) (local : LocalValues) (hand : HandValues) : Type 0 where
+pub record CanGive (sys : System) (g : Assignment) (s : State) (counters : ℕ) (routes : List (List (List Route))) (desks : List Desk) (probe : ProbeValues) (turn i : ℕ) (local : LocalValues) (hand : HandValues) : Type 0 where
   pub sound : IsSound sys
   pub greatest : IsGreatest sys.equations g
   pub fit : IsFit sys g s.workers
   pub counted : AreCounted (worker_count s) s
-  pub fits : TablesFit sys s counters routes desks turn
+  pub fits : TablesFit sys s counters routes desks probe turn
   pub in_range : i < worker_count s
   pub values : local.values ≡ values_given sys (piece_at sys.pieces i) (worker_at s.workers i)
   pub before : local.before ≡ take (length (piece_at sys.pieces i).owned) (worker_at s.workers i).values
   pub order : hand.order ≡ sys.equations.order
   pub sizes : HasSizes (piece_at sys.pieces i) counters local.before local.counters hand.values
 
-module _ {sys : System} {g : Assignment} {s : State} {counters : ℕ} {routes : List (List (List Route))} {desks : List Desk} {turn i : ℕ} {local : LocalValues} {hand : HandValues} (can : CanGive sys g s counters routes desks turn i local hand) where
+module _ {sys : System} {g : Assignment} {s : State} {counters : ℕ} {routes : List (List (List Route))} {desks : List Desk} {probe : ProbeValues} {turn i : ℕ} {local : LocalValues} {hand : HandValues} (can : CanGive sys g s counters routes desks probe turn i local hand) where
   abbrev from : Piece
   from = piece_at sys.pieces i
 
@@ -97,8 +105,12 @@ module _ {sys : System} {g : Assignment} {s : State} {counters : ℕ} {routes : 
   abbrev next : State
   next = state_after sys s (Give i)
 
+  -- of this Give the batches come
+  abbrev sender : Sender
+  sender = record { place = length s.past; round = slice_index s.rounds i + 1 }
+
   abbrev sent : List Desk
-  sent = posted local.before local.values from.routes desks
+  sent = posted sender local.before local.values from.routes desks
 
   in_pieces : i < length sys.pieces
   in_pieces = let e = can.fit.workers in let h = can.in_range in omega (arith, e, h)
@@ -169,17 +181,24 @@ module _ {sys : System} {g : Assignment} {s : State} {counters : ℕ} {routes : 
       let high : Below o NOTHING (slice_index giver.values p) = subst (λ x. Below o x (slice_index giver.values p)) z low in
       n (old_place p h ∙ (Below-antisym o (slice_index giver.values p) NOTHING small high ∙ sym z))
 
-  pub have_room : FewWait s → length s.past < 2 ^ 64 - 1 → HaveRoom desks
-  have_room few short =
-      All-from_get_or (λ (d : Desk). batches_in d.buffer < 2 ^ 64 - 1) desks (record { seat = Out 0 0; stretched = false; buffer = buffer_of sys no_piece giver })
-      (λ j h. one j h (slice_index_or desks j (record { seat = Out 0 0; stretched = false; buffer = buffer_of sys no_piece giver })) (slice_get-get_or desks j (record { seat = Out 0 0; stretched = false; buffer = buffer_of sys no_piece giver }) h))
+  pub can_receive : FewWait s → AreInTime s → length s.past < 2 ^ 64 - 1 → AllCanReceive (length s.past) desks
+  can_receive few times short =
+      All-from_get_or (CanReceive (length s.past)) desks some_desk (λ j h. one j h (slice_index_or desks j some_desk) (slice_get-get_or desks j some_desk h))
     where
-      one : (j : ℕ) → j < length desks → (d : Desk) → slice_get desks j ≡ Some d → batches_in d.buffer < 2 ^ 64 - 1
+      some_desk : Desk
+      some_desk = record { seat = Out 0 0; delay = None; round = 0; pulse = []; buffer = buffer_of sys no_piece (worker_at s.workers i) }
+
+      in_window : (n : ℕ) (arrivals : List ℕ) → AllByRecursion (λ a. a < n) arrivals → IsNotBelowLast n (window arrivals)
+      in_window n [] h = tt
+      in_window n (a ∷ before) h = let l = h.0 in omega (arith, l)
+
+      one : (j : ℕ) → j < length desks → (d : Desk) → slice_get desks j ≡ Some d → CanReceive (length s.past) d
       one j h d there =
-          let count = ap (λ (b : BufferValues). batches_in b) (can.fits.fit j d there).buffer in
+          let f = can.fits.fit j d there in
+          let count = ap (λ (b : BufferValues). batches_in b) f.buffer in
           let c = can.fits.count in
           let waits = few j (omega (arith, h, c)) in
-          omega (arith, count, waits, short)
+          (omega (arith, count, waits, short), subst (IsNotBelowLast (length s.past)) (sym f.pulse) (in_window (length s.past) (slice_index_or s.arrivals j []) (times.arrivals j)))
 
   posts_are : (k : ℕ) → posts_to k local.before local.values from.routes ≡ sent_to sys from giver k
   posts_are k =
@@ -213,13 +232,23 @@ module _ {sys : System} {g : Assignment} {s : State} {counters : ℕ} {routes : 
       after-at sys s.workers (BaseGive i) j h
       ∙ ap (λ b. if b then after_giving sys from (worker_at s.workers j) else after_receiving i (giver.gives + 1) (sent_to sys from giver j) (worker_at s.workers j)) (ne_eqb j i n)
 
-  given_desk : (d : Desk) → slice_get sent i ≡ Some d → DeskFits sys next counters i (record d { seat = Here false (settled local) hand })
+  -- ---- the rounds and arrivals after it
+
+  rounds_are : (j : ℕ) → j < worker_count s → slice_index next.rounds j ≡ round_after sys s i j
+  rounds_are j h = get_or-map-range_with_len (round_after sys s i) 0 (worker_count s) j j 0 h (omega arith)
+
+  arrivals_are : (j : ℕ) → j < worker_count s → slice_index_or next.arrivals j [] ≡ arrivals_at sys s i j
+  arrivals_are j h = get_or-map-range_with_len (arrivals_at sys s i) 0 (worker_count s) j j [] h (omega arith)
+
+  -- ---- the desks after it
+
+  given_desk : (d : Desk) → slice_get sent i ≡ Some d → DeskFits sys next counters i (rested_desk sender.round (settled local) hand d)
   given_desk d there =
-      let at = posted_at 0 local.before local.values from.routes desks i d there in
+      let at = posted_at sender 0 local.before local.values from.routes desks i d there in
       let e = at.0 in
       let f = can.fits.fit i e at.1 in
       let z : 0 + i ≡ i = omega arith in
-      let desk : d ≡ e = at.2 ∙ ap (λ l. record e { buffer = with_batch_of l e.buffer }) (ap (λ n. posts_to n local.before local.values from.routes) z ∙ none_to_itself) in
+      let desk : d ≡ e = at.2 ∙ ap (λ l. with_batch_of sender l e) (ap (λ n. posts_to n local.before local.values from.routes) z ∙ none_to_itself) in
       let long : length local.before ≡ length (take (length from.owned) local.values) =
       (let a = can.sizes.owned in let b = length-take (length from.owned) local.values in let c = ap (λ (l : List ℕ). length l) can.values in
       let d = ys-length sys g can.sound can.greatest i in_pieces s.workers giver (can.fit.each i can.in_range) in let k = (can.fit.each i can.in_range).shape.values in let m = length-append from.owned from.mirrors in omega (arith, a, b, c, d, k, m)) in
@@ -233,33 +262,44 @@ module _ {sys : System} {g : Assignment} {s : State} {counters : ℕ} {routes : 
           can.order,
           record { owned = ap (λ (l : List ℕ). length l) now ∙ (sym long ∙ can.sizes.owned); room = can.sizes.room; mirrors = can.sizes.mirrors },
         );
-        stretched = ap (λ (x : Desk). x.stretched) desk ∙ f.stretched;
-        no_turns = λ turns place h. let k = f.no_turns turns place h in let p = k.1 in (k.0, omega (arith, p));
+        delay = f.delay ∙ sym (ap (λ (x : Desk). turns_and_place x.delay) desk);
+        round = sym (rounds_are i can.in_range ∙ own_round (i == i) (eq-eqb i i refl));
+        pulse = ap (λ (x : Desk). x.pulse) desk ∙ (f.pulse ∙ sym (ap window (arrivals_are i can.in_range ∙ own_arrivals (i == i) (eq-eqb i i refl))));
         buffer = ap (λ (x : Desk). x.buffer) desk ∙ (f.buffer ∙ sym (ap (λ (w : Worker). buffer_of sys from w) giver_is));
       }
+    where
+      own_round : (b : Bool) → b ≡ true →
+          (if b then slice_index s.rounds i + 1 else if (not b && not (is_empty (sent_to sys from giver i))) && rests_without_mail s i then max (slice_index s.rounds i) (slice_index s.rounds i + 1) else slice_index s.rounds i)
+          ≡ slice_index s.rounds i + 1
+      own_round true h = refl
+      own_round false h = cc
+
+      own_arrivals : (b : Bool) → b ≡ true → (if not b && not (is_empty (sent_to sys from giver i)) then length s.past ∷ slice_index_or s.arrivals i [] else slice_index_or s.arrivals i []) ≡ slice_index_or s.arrivals i []
+      own_arrivals true h = refl
+      own_arrivals false h = cc
 
   other_desk : (j : ℕ) (d : Desk) → j ≢ i → slice_get sent j ≡ Some d → DeskFits sys next counters j d
   other_desk j d n there =
-      let at = posted_at 0 local.before local.values from.routes desks j d there in
+      let at = posted_at sender 0 local.before local.values from.routes desks j d there in
       let e = at.0 in
       let f = can.fits.fit j e at.1 in
       let z : 0 + j ≡ j = omega arith in
-      let desk : d ≡ record e { buffer = with_batch_of (sent_to sys from giver j) e.buffer } = at.2 ∙ ap (λ l. record e { buffer = with_batch_of l e.buffer }) (ap (λ n. posts_to n local.before local.values from.routes) z ∙ posts_are j) in
+      let posts = sent_to sys from giver j in
+      let desk : d ≡ with_batch_of sender posts e = at.2 ∙ ap (λ l. with_batch_of sender l e) (ap (λ n. posts_to n local.before local.values from.routes) z ∙ posts_are j) in
       let c = can.fits.count in
       let l = slice_get_within desks j e at.1 in
       let h : j < worker_count s = omega (arith, c, l) in
       let same = as_before sys s.workers (BaseGive i) j h n in
       let w = worker_at s.workers j in
       let queue : i < length w.mail = (let m = (can.counted.mail j h).senders in let q = can.in_range in omega (arith, m, q)) in
-      let mail =
-      ap (λ (b : BufferValues). with_batch_of (sent_to sys from giver j) b) f.buffer
-      ∙ (received_buffer sys (piece_at sys.pieces j) i (giver.gives + 1) (sent_to sys from giver j) w queue ∙ sym (ap (λ (x : Worker). buffer_of sys (piece_at sys.pieces j) x) (receiver_is j h n))) in
+      let stays = seat_stays sender posts e in
       subst (DeskFits sys next counters j) (sym desk)
       (record {
-        seat = still e.seat same.standing same.values f.seat;
-        stretched = f.stretched;
-        no_turns = λ turns place k. let q = f.no_turns turns place k in let p = q.1 in (q.0, omega (arith, p));
-        buffer = mail;
+        seat = subst (SeatFits sys next counters j) (sym stays.0) (still e.seat same.standing same.values f.seat);
+        delay = f.delay ∙ sym (ap turns_and_place stays.1);
+        round = round_received sender posts e (slice_index s.rounds j) (slice_index s.rounds i) (j == i) (rests_without_mail s j) (ne_eqb j i n) f.round refl (rests_here sys s counters j e f) ∙ sym (rounds_are j h);
+        pulse = pulse_received sender posts e (slice_index_or s.arrivals j []) (j == i) (ne_eqb j i n) f.pulse ∙ sym (ap window (arrivals_are j h));
+        buffer = received_buffer sys (piece_at sys.pieces j) sender i (giver.gives + 1) posts w e queue f.buffer ∙ sym (ap (λ (x : Worker). buffer_of sys (piece_at sys.pieces j) x) (receiver_is j h n));
       })
     where
       still : (seat : Seat) → (worker_at next.workers j).standing ≡ (worker_at s.workers j).standing → (worker_at next.workers j).values ≡ (worker_at s.workers j).values →
@@ -274,14 +314,15 @@ module _ {sys : System} {g : Assignment} {s : State} {counters : ℕ} {routes : 
       )
       still (Out lane place) a b k = (ap (λ (x : Standing). is_running (record (worker_at s.workers j) { standing = x })) a ∙ k.0, k.1, k.2)
 
-  pub give_fits : (d : Desk) → slice_get sent i ≡ Some d → TablesFit sys next counters routes (slice_set sent i (record d { seat = Here false (settled local) hand })) turn
+  pub give_fits : (d : Desk) → slice_get sent i ≡ Some d → TablesFit sys next counters routes (slice_set sent i (rested_desk sender.round (settled local) hand d)) probe turn
   give_fits d there =
       let long = after-length sys s.workers (BaseGive i) in
-      let sent_long = posted_length 0 local.before local.values from.routes desks in
-      let new : Desk = record d { seat = Here false (settled local) hand } in
+      let sent_long = posted_length sender 0 local.before local.values from.routes desks in
+      let new : Desk = rested_desk sender.round (settled local) hand d in
       record {
         are_routes = can.fits.are_routes;
         count = length-set sent i new ∙ (sent_long ∙ (can.fits.count ∙ sym long));
+        is_probe = can.fits.is_probe ∙ (sym ((follows_events (worker_count s)).1 s.past (Give i)) ∙ sym (ap (λ n. probe_of n (Give i ∷ s.past)) long));
         is_turn = can.fits.is_turn ∙ sym (ap (λ n. first_in_turn n s.past) long);
         fit = λ j e h. elim (cases_eq j i) [
           | inl k ↦

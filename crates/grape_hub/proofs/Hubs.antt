@@ -1,7 +1,8 @@
 -- What every hub keeps, and how it grows by an event.
-use Rattle.std.proofs.Common.{◌≡◌, ◌≢◌, ℕ, zero, suc, ◌+◌, ◌<◌, ◌≤◌, Bool, true, false, not, ◌&&◌, cond, IsTrue, refl, sym, ◌∙◌, ap, subst, arith, List, [], ◌∷◌, ◌++◌, length, reverse, slice_get, slice_set, slice_index_or, count_by, sum_by, Option, Some, None}
+use Rattle.std.proofs.Common.{◌≡◌, ℕ, suc, ◌+◌, ◌<◌, ◌≤◌, true, false, cond, IsTrue, refl, sym, ◌∙◌, ap, subst, arith, List, [], ◌∷◌, length, reverse, slice_get, slice_set, slice_index_or, count_by, sum_by, Some}
 use Rattle.std.specs.List.{AllByRecursion}
 use mathlib.Core.List.{reverse-cons}
+use Rattle.std.proofs.lemmas.List.{reverse-append}
 use Rattle.std.proofs.lemmas.List.Sums.{sum_by-cons, sum_by-set}
 use Rattle.std.proofs.lemmas.Bool.{and_parts}
 use Rattle.std.proofs.lemmas.List.{length-map}
@@ -12,9 +13,11 @@ use Rattle.graph_core.specs.declared.fragment.Route.{Route}
 use Rattle.graph_core.specs.Graphs.{IsJob}
 use Rattle.grape_event.specs.declared.event.Event.{Event}
 use Rattle.grape_event.specs.declared.event.Event.TheVariants.{End}
-use Rattle.token_cut.specs.Parts.{SnapshotParts}
 use Rattle.base_machine.specs.Machine.{System, system_of, BaseState, Worker, worker_at, is_running, no_worker, fresh_snapshot, fresh_part}
 use Rattle.base_machine.proofs.Posts.{all_append}
+use Rattle.legal_journal.specs.Past.{has_ended}
+use Rattle.stop_probe.specs.ProbeValues.{ProbeValues}
+use Rattle.grape_event.specs.Events.{is_last}
 use Rattle.legal_journal.specs.Legal.{State, start_state, state_at_end, state_after, worker_count, is_admitted, IsLegal}
 use Rattle.legal_journal.proofs.Walks.{kept_along, journals_grow}
 use Rattle.legal_journal.proofs.Journals.{AreCounted, event_counted, start_counted, counted_here}
@@ -25,7 +28,7 @@ use Rattle.grape_hub.specs.HubValues.{HubValues}
 use Rattle.grape_hub.specs.States.{machine, beginning, state_of, workers_of, is_built, works_out, IsHub}
 use Rattle.grape_hub.specs.Desks.{DeskFits, SeatFits, TablesFit, is_out}
 use Rattle.grape_hub.specs.Calls.{Appended}
-use Rattle.grape_hub.proofs.Plain.{IsPlain, never_open, never_ended}
+use Rattle.grape_hub.proofs.Plain.{IsPlain, is_plain}
 
 -- ---- what holds of the state
 
@@ -36,10 +39,15 @@ all_reversed P (e ∷ es) h = subst (AllByRecursion P) (sym (reverse-cons e es))
 pub past_of : (h : HubValues) → (state_of h).past ≡ reverse h.journal.events
 past_of h = (journals_grow (machine h) (beginning h) h.journal.events End).0
 
+pub built_past : (h : HubValues) → IsHub h → AllByRecursion (λ e. is_built e ≡ true) (state_of h).past
+built_past h k = subst (AllByRecursion (λ e. is_built e ≡ true)) (sym (past_of h)) (all_reversed (λ e. is_built e ≡ true) h.journal.events k.built)
+
 pub plain_of : (h : HubValues) → IsHub h → IsPlain (machine h) (state_of h)
-plain_of h k =
-    let built = subst (AllByRecursion (λ e. is_built e ≡ true)) (sym (past_of h)) (all_reversed (λ e. is_built e ≡ true) h.journal.events k.built) in
-    record { policy = k.policy; snapshot = k.snapshot; closed = never_open (state_of h).past built; going = never_ended (state_of h).past built }
+plain_of h k = is_plain (machine h) (state_of h) k.snapshot (built_past h k)
+
+-- the state's journal has ended where the hub's has
+pub ended_is : (h : HubValues) → has_ended (state_of h).past ≡ has_ended (reverse h.journal.events)
+ended_is h = ap (λ (past : List Event). has_ended past) (past_of h)
 
 pub counted_of : (h : HubValues) → IsHub h → AreCounted (worker_count (state_of h)) (state_of h)
 counted_of h k =
@@ -68,16 +76,26 @@ module _ (old new : HubValues) (e : Event) (more : Appended old e new) where
       ap (λ (job : Job). state_at_end (system_of job) (fresh_snapshot (system_of job)) new.journal.events) more.0
       ∙ (ap (λ l. state_at_end (machine old) (beginning old) l) more.2 ∙ (journals_grow (machine old) (beginning old) old.journal.events e).1)
 
-  pub hub_grown : IsHub old → IsTrue (is_admitted (machine old) (state_of old) e) → is_built e ≡ true → works_out (workers_of new) ≤ new.journal.spare → IsHub new
+  -- the journal has ended where the event is a last one
+  ends_with : has_ended (reverse new.journal.events) ≡ is_last e
+  ends_with = ap (λ (es : List Event). has_ended (reverse es)) more.2 ∙ ap (λ (es : List Event). has_ended es) (reverse-append old.journal.events (e ∷ []))
+
+  pub hub_grown : IsHub old → IsTrue (is_admitted (machine old) (state_of old) e) → is_built e ≡ true → (is_last e ≡ false → works_out (workers_of new) + 1 ≤ new.journal.spare) → IsHub new
   hub_grown k a b room = record {
     job = subst IsJob (sym more.0) k.job;
-    policy = ap (λ (job : Job). job.settings.policy) more.0 ∙ k.policy;
     snapshot = ap (λ (job : Job). job.settings.snapshot) more.0 ∙ k.snapshot;
     legal = subst (λ (job : Job). IsLegal (system_of job) (fresh_snapshot (system_of job)) new.journal.events) (sym more.0)
         (subst (IsLegal (machine old) (beginning old)) (sym more.2) ((journals_grow (machine old) (beginning old) old.journal.events e).2.1 (k.legal, a)));
     built = subst (AllByRecursion (λ e. is_built e ≡ true)) (sym more.2) (all_append (λ e. is_built e ≡ true) old.journal.events (e ∷ []) k.built (b, tt));
-    room = room;
+    room = λ going. room (sym ends_with ∙ going);
   }
+
+-- a hub with more room
+pub hub_roomier : (old new : HubValues) → new.job ≡ old.job → new.journal.events ≡ old.journal.events → old.journal.spare ≤ new.journal.spare → IsHub old → IsHub new
+hub_roomier old new same_job same_events more k =
+    let P : Job → List Event → Type 0 = λ job es. IsHub (record { job = job; counters = new.counters; journal = record { events = es; spare = new.journal.spare } }) in
+    let here : P old.job old.journal.events = record { job = k.job; snapshot = k.snapshot; legal = k.legal; built = k.built; room = λ going. let r = k.room going in omega (arith, r, more) } in
+    subst (λ job. P job new.journal.events) (sym same_job) (subst (λ es. P old.job es) (sym same_events) here)
 
 -- ---- how many are out
 
@@ -101,9 +119,9 @@ counts_same (d ∷ desks) [] e h = absurd (omega (arith, e))
 counts_same (d ∷ desks) (w ∷ ws) e h =
     let a = sum_by-cons (λ (x : Desk). cond (is_out x) 1 0) d desks in
     let b = sum_by-cons (λ (x : Worker). cond (is_running x) 1 0) w ws in
-    let c : cond (is_out d) 1 0 ≡ cond (is_running w) 1 0 = ap {B = ℕ} (λ t. cond t 1 0) (h 0 d refl) in
+    let c = ap {B = ℕ} (λ t. cond t 1 0) (h 0 d refl) in
     let r = counts_same desks ws (omega (arith, e)) (λ i x g. h (suc i) x g) in
     a ∙ (ap (λ n. n + sum_by (λ (x : Desk). cond (is_out x) 1 0) desks) c ∙ (ap (λ n. cond (is_running w) 1 0 + n) r ∙ sym b))
 
-pub out_is : (sys : System) (s : State) (counters : ℕ) (routes : List (List (List Route))) (desks : List Desk) (turn : ℕ) → TablesFit sys s counters routes desks turn → count_by is_out desks ≡ works_out s.workers
-out_is sys s counters routes desks turn f = counts_same desks s.workers f.count (λ i d g. seat_out sys s counters i d (f.fit i d g))
+pub out_is : (sys : System) (s : State) (counters : ℕ) (routes : List (List (List Route))) (desks : List Desk) (probe : ProbeValues) (turn : ℕ) → TablesFit sys s counters routes desks probe turn → count_by is_out desks ≡ works_out s.workers
+out_is sys s counters routes desks probe turn f = counts_same desks s.workers f.count (λ i d g. seat_out sys s counters i d (f.fit i d g))

@@ -1,16 +1,14 @@
 -- A Work on its way through a lane.
-use Rattle.std.proofs.Common.{◌≡◌, ℕ, ◌+◌, ◌*◌, ◌<◌, Bool, false, refl, sym, ◌∙◌, ap, subst, arith, List, length, take}
+use Rattle.std.proofs.Common.{◌≡◌, ℕ, Bool, sym, ◌∙◌, ap, List, length}
 use Rattle.graph_core.specs.Queries.{equations_of}
-use Rattle.graph_core.specs.Fragments.{Piece, piece_at, piece_of, fragment_of}
+use Rattle.graph_core.specs.Fragments.{Piece, piece_of}
 use Rattle.message_buffer.specs.HandValues.{HandValues}
-use Rattle.pie_core.specs.Locals.{LocalValues}
 use Rattle.pie_core.specs.Solutions.{lowered, local_solution}
-use Rattle.base_machine.specs.Machine.{Worker, worker_at, hand_of, values_given}
+use Rattle.base_machine.specs.Machine.{worker_at, hand_of}
 use Rattle.grape_hub.specs.declared.work.Work.{Work}
 use Rattle.grape_hub.specs.HubValues.{HubValues}
-use Rattle.grape_hub.specs.States.{machine, state_of, workers_of, piece_of_worker, IsHub}
-use Rattle.grape_hub.specs.Desks.{HasSizes}
-use Rattle.grape_hub.specs.Calls.{IsWork, IsReady, MayGive}
+use Rattle.grape_hub.specs.States.{workers_of, piece_of_worker, IsHub}
+use Rattle.grape_hub.specs.Calls.{IsWork}
 use Rattle.grape_hub.specs.Theorems.{WorksMayBeEvaluated, EvaluatedMayBeGiven}
 use Rattle.grape_hub.proofs.Ready.{piece_is}
 use Rattle.grape_hub.proofs.Ready as ready

@@ -14,10 +14,14 @@ pub mod Opening
 pub mod First
 pub mod Receipts
 pub mod Waiting
+pub mod Clocks
+pub mod Rounds
 pub mod Given
 pub mod Gives
+pub mod Choosing
 pub mod Nexts
 pub mod Finished
 pub mod Calm
 pub mod Lanes
 pub mod Programs
+pub mod Duties

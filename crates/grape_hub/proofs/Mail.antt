@@ -1,19 +1,19 @@
 -- A Take takes all mail that waits, and leaves none.
-use Rattle.std.proofs.Common.{◌≡◌, ℕ, zero, suc, ◌+◌, ◌<◌, ◌≤◌, Bool, true, false, nat_lt, nat_le, cond, refl, sym, ◌∙◌, ap, subst, arith, List, [], ◌∷◌, ◌++◌, length, map, filter, flat_map, slice_index, slice_index_or, replicate, sum_by, append_assoc}
+use Rattle.std.proofs.Common.{◌≡◌, ℕ, zero, suc, ◌+◌, ◌<◌, ◌≤◌, nat_lt, nat_le, cond, refl, sym, ◌∙◌, ap, subst, arith, List, [], ◌∷◌, ◌++◌, length, map, filter, flat_map, slice_index, slice_index_or, replicate, sum_by, append_assoc}
 use Rattle.std.specs.List.{AllByRecursion, range_with_len}
 use Rattle.std.proofs.lemmas.Bool.{le-leb, le-ltb}
 use Rattle.std.proofs.lemmas.List.Sums.{sum_by-cons}
 use Rattle.value_order.specs.declared.order.Order.{Order}
 use Rattle.value_order.specs.declared.TheConstants.{NOTHING}
-use Rattle.value_order.specs.Order.{Below, meet_of, meet_all}
+use Rattle.value_order.specs.Order.{Below, meet_all}
 use Rattle.value_order.proofs.Orders.{Below-refl}
 use Rattle.graph_core.specs.Fragments.{Piece, numbers_below}
 use Rattle.grape_event.specs.declared.event.Event.{Event}
 use Rattle.message_buffer.specs.Buffers.{meets_of}
-use Rattle.base_machine.specs.Machine.{System, Worker, Batch, Post, posts_in, met_posts, values_for, pending_posts, taken_batches, left_batches, after_taking, batches_waiting, is_empty}
+use Rattle.base_machine.specs.Machine.{System, Worker, Batch, Post, posts_in, met_posts, values_for, pending_posts, taken_batches, left_batches, after_taking, batches_waiting}
 use Rattle.base_machine.proofs.Meets.{meet_all-lower}
 use Rattle.base_machine.proofs.Giving.{neutral}
-use Rattle.legal_journal.specs.Past.{gives_of_each, gives_of}
+use Rattle.legal_journal.specs.Past.{gives_of_each}
 use Rattle.legal_journal.proofs.Journals.{IsCounted, counts-length, counts-at}
 
 -- ---- batches up to a number

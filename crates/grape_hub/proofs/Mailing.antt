@@ -1,5 +1,5 @@
 -- Desks while posts are sent to them.
-use Rattle.std.proofs.Common.{◌≡◌, ◌≢◌, ℕ, zero, suc, ◌+◌, ◌-◌, ◌<◌, ◌≤◌, ◌^◌, ◌⊎◌, inl, inr, Bool, true, false, not, ◌==◌, ◌||◌, if◌then◌else◌, refl, sym, ◌∙◌, ap, subst, arith, add-one, List, [], ◌∷◌, ◌++◌, length, map, filter, take, append_assoc, length-set, slice_index, slice_index_or, slice_set, All, Some, slice_get, replicate}
+use Rattle.std.proofs.Common.{◌≡◌, ◌≢◌, ℕ, zero, suc, ◌+◌, ◌<◌, ◌≤◌, ◌⊎◌, inl, inr, Bool, true, false, not, ◌==◌, ◌||◌, if◌then◌else◌, refl, sym, ◌∙◌, ap, subst, arith, add-one, List, [], ◌∷◌, ◌++◌, length, map, filter, take, append_assoc, length-set, slice_index, slice_index_or, slice_set, All, Some, slice_get, replicate}
 use Rattle.std.proofs.lemmas.Bool.{cases_lt, eq-eqb, eqb-true, ne_eqb}
 use Rattle.std.proofs.lemmas.Option.{slice_get-get_or, slice_get_within, get_or_from_slice_get}
 use Rattle.std.proofs.lemmas.List.{append-nil, take_all, map-append, length-map, get_or-map, get_or-replicate}
@@ -8,67 +8,68 @@ use Rattle.std.proofs.Math.Seq.{take-suc}
 use Rattle.value_order.specs.Order.{meet_of}
 use Rattle.graph_core.specs.declared.fragment.Route.{Route}
 use Rattle.message_buffer.specs.BufferValues.{BufferValues}
-use Rattle.message_buffer.specs.Buffers.{with_batch, with_post, batches_in}
+use Rattle.message_buffer.specs.Buffers.{with_post}
 use Rattle.base_machine.specs.Machine.{Post, posts_to, is_empty}
 use Rattle.grape_hub.specs.declared.desk.Desk.{Desk}
-use Rattle.grape_hub.specs.Posting.{with_posts, with_batch_of, posted_from, posted, mirror_counts, LeadToDesks, HaveRoom, with_mail, mailed_from, mailed, AreBegun, posts_along, CanBegin}
+use Rattle.grape_hub.specs.declared.sender.Sender.{Sender}
+use Rattle.grape_hub.specs.Desks.{with_arrival}
+use Rattle.grape_hub.specs.Posting.{with_posts, with_more, with_batch_of, posted_from, posted, mirror_counts, LeadToDesks, CanReceive, AllCanReceive, with_mail, mailed_from, mailed, AreBegun, posts_along, CanBegin}
 
--- ---- one buffer
+-- ---- one desk
 
 pub with_posts-append : (xs ys : List Post) (b : BufferValues) → with_posts ys (with_posts xs b) ≡ with_posts (xs ++ ys) b
 with_posts-append [] ys b = refl
 with_posts-append (p ∷ xs) ys b = with_posts-append xs ys (with_post false p.mirror p.value b)
 
-with_mail-more : (begun : Bool) (xs ys : List Post) (b : BufferValues) → with_mail (begun || not (is_empty xs)) ys (with_mail begun xs b) ≡ with_mail begun (xs ++ ys) b
-with_mail-more true xs ys b = with_posts-append xs ys b
-with_mail-more false [] ys b = refl
-with_mail-more false (p ∷ xs) ys b = with_posts-append (p ∷ xs) ys (with_batch false b)
+with_more-append : (xs ys : List Post) (d : Desk) → with_more ys (with_more xs d) ≡ with_more (xs ++ ys) d
+with_more-append xs ys d = ap (λ (b : BufferValues). record d { buffer = b }) (with_posts-append xs ys d.buffer)
 
-with_mail-none : (begun : Bool) (b : BufferValues) → with_mail begun [] b ≡ b
-with_mail-none true b = refl
-with_mail-none false b = refl
+with_mail-more : (sender : Sender) (begun : Bool) (xs ys : List Post) (d : Desk) → with_mail sender (begun || not (is_empty xs)) ys (with_mail sender begun xs d) ≡ with_mail sender begun (xs ++ ys) d
+with_mail-more sender true xs ys d = with_more-append xs ys d
+with_mail-more sender false [] ys d = refl
+with_mail-more sender false (p ∷ xs) ys d = with_more-append (p ∷ xs) ys (with_arrival sender.place sender.round d)
+
+with_mail-none : (sender : Sender) (begun : Bool) (d : Desk) → with_mail sender begun [] d ≡ d
+with_mail-none sender true d = refl
+with_mail-none sender false d = refl
 
 pub with_posts-length : (xs : List Post) (b : BufferValues) → length (with_posts xs b).plain ≡ length b.plain
 with_posts-length [] b = refl
 with_posts-length (p ∷ xs) b = with_posts-length xs (with_post false p.mirror p.value b) ∙ length-set b.plain p.mirror (meet_of b.order (slice_index b.plain p.mirror) p.value)
 
-with_mail-length : (begun : Bool) (xs : List Post) (b : BufferValues) → length (with_mail begun xs b).plain ≡ length b.plain
-with_mail-length true xs b = with_posts-length xs b
-with_mail-length false [] b = refl
-with_mail-length false (p ∷ xs) b = with_posts-length (p ∷ xs) (with_batch false b)
+with_mail-length : (sender : Sender) (begun : Bool) (xs : List Post) (d : Desk) → length (with_mail sender begun xs d).buffer.plain ≡ length d.buffer.plain
+with_mail-length sender true xs d = with_posts-length xs d.buffer
+with_mail-length sender false [] d = refl
+with_mail-length sender false (p ∷ xs) d = with_posts-length (p ∷ xs) (with_arrival sender.place sender.round d).buffer
 
 -- ---- all desks
 
-pub mailed_from-more : (k : ℕ) (before begun : List Bool) (xs ys : ℕ → List Post) (desks : List Desk) → AreBegun before xs begun → k + length desks ≤ 64 →
-    mailed_from k begun ys (mailed_from k before xs desks) ≡ mailed_from k before (λ j. xs j ++ ys j) desks
-mailed_from-more k before begun xs ys [] h l = refl
-mailed_from-more k before begun xs ys (d ∷ desks) h l =
-    ap (λ (b : BufferValues). record d { buffer = b } ∷ mailed_from (k + 1) begun ys (mailed_from (k + 1) before xs desks))
-    (ap (λ t. with_mail t (ys k) (with_mail (slice_index_or before k false) (xs k) d.buffer)) (h k (omega (arith, l))) ∙ with_mail-more (slice_index_or before k false) (xs k) (ys k) d.buffer)
-    ∙ ap (λ l. record d { buffer = with_mail (slice_index_or before k false) (xs k ++ ys k) d.buffer } ∷ l) (mailed_from-more (k + 1) before begun xs ys desks h (omega (arith, l)))
+pub mailed_from-more : (sender : Sender) (k : ℕ) (before begun : List Bool) (xs ys : ℕ → List Post) (desks : List Desk) → AreBegun before xs begun → k + length desks ≤ 64 →
+    mailed_from sender k begun ys (mailed_from sender k before xs desks) ≡ mailed_from sender k before (λ j. xs j ++ ys j) desks
+mailed_from-more sender k before begun xs ys [] h l = refl
+mailed_from-more sender k before begun xs ys (d ∷ desks) h l =
+    ap (λ (e : Desk). e ∷ mailed_from sender (k + 1) begun ys (mailed_from sender (k + 1) before xs desks))
+    (ap (λ t. with_mail sender t (ys k) (with_mail sender (slice_index_or before k false) (xs k) d)) (h k (omega (arith, l))) ∙ with_mail-more sender (slice_index_or before k false) (xs k) (ys k) d)
+    ∙ ap (λ l. with_mail sender (slice_index_or before k false) (xs k ++ ys k) d ∷ l) (mailed_from-more sender (k + 1) before begun xs ys desks h (omega (arith, l)))
 
-pub mailed_from-same : (k : ℕ) (begun : List Bool) (xs ys : ℕ → List Post) (desks : List Desk) → ((j : ℕ) → xs j ≡ ys j) → mailed_from k begun xs desks ≡ mailed_from k begun ys desks
-mailed_from-same k begun xs ys [] h = refl
-mailed_from-same k begun xs ys (d ∷ desks) h =
-    ap (λ l. record d { buffer = with_mail (slice_index_or begun k false) l d.buffer } ∷ mailed_from (k + 1) begun xs desks) (h k)
-    ∙ ap (λ l. record d { buffer = with_mail (slice_index_or begun k false) (ys k) d.buffer } ∷ l) (mailed_from-same (k + 1) begun xs ys desks h)
+pub mailed_from-same : (sender : Sender) (k : ℕ) (begun : List Bool) (xs ys : ℕ → List Post) (desks : List Desk) → ((j : ℕ) → xs j ≡ ys j) → mailed_from sender k begun xs desks ≡ mailed_from sender k begun ys desks
+mailed_from-same sender k begun xs ys [] h = refl
+mailed_from-same sender k begun xs ys (d ∷ desks) h =
+    ap (λ l. with_mail sender (slice_index_or begun k false) l d ∷ mailed_from sender (k + 1) begun xs desks) (h k)
+    ∙ ap (λ l. with_mail sender (slice_index_or begun k false) (ys k) d ∷ l) (mailed_from-same sender (k + 1) begun xs ys desks h)
 
-pub mailed_from-none : (k : ℕ) (begun : List Bool) (xs : ℕ → List Post) (desks : List Desk) → ((j : ℕ) → k ≤ j → xs j ≡ []) → mailed_from k begun xs desks ≡ desks
-mailed_from-none k begun xs [] h = refl
-mailed_from-none k begun xs (d ∷ desks) h =
-    ap (λ (b : BufferValues). record d { buffer = b } ∷ mailed_from (k + 1) begun xs desks)
-    (ap (λ l. with_mail (slice_index_or begun k false) l d.buffer) (h k (omega arith)) ∙ with_mail-none (slice_index_or begun k false) d.buffer)
-    ∙ ap (λ l. d ∷ l) (mailed_from-none (k + 1) begun xs desks (λ j l. h j (omega (arith, l))))
+pub mailed_from-none : (sender : Sender) (k : ℕ) (begun : List Bool) (xs : ℕ → List Post) (desks : List Desk) → ((j : ℕ) → k ≤ j → xs j ≡ []) → mailed_from sender k begun xs desks ≡ desks
+mailed_from-none sender k begun xs [] h = refl
+mailed_from-none sender k begun xs (d ∷ desks) h =
+    ap (λ (e : Desk). e ∷ mailed_from sender (k + 1) begun xs desks)
+    (ap (λ l. with_mail sender (slice_index_or begun k false) l d) (h k (omega arith)) ∙ with_mail-none sender (slice_index_or begun k false) d)
+    ∙ ap (λ l. d ∷ l) (mailed_from-none sender (k + 1) begun xs desks (λ j l. h j (omega (arith, l))))
 
-pub mailed_from-length : (k : ℕ) (begun : List Bool) (xs : ℕ → List Post) (desks : List Desk) → length (mailed_from k begun xs desks) ≡ length desks
-mailed_from-length k begun xs [] = refl
-mailed_from-length k begun xs (d ∷ desks) = let e = mailed_from-length (k + 1) begun xs desks in omega (arith, e)
-
-pub mailed_from-counts : (k : ℕ) (begun : List Bool) (xs : ℕ → List Post) (desks : List Desk) → mirror_counts (mailed_from k begun xs desks) ≡ mirror_counts desks
-mailed_from-counts k begun xs [] = refl
-mailed_from-counts k begun xs (d ∷ desks) =
-    ap (λ n. n ∷ mirror_counts (mailed_from (k + 1) begun xs desks)) (with_mail-length (slice_index_or begun k false) (xs k) d.buffer)
-    ∙ ap (λ l. length d.buffer.plain ∷ l) (mailed_from-counts (k + 1) begun xs desks)
+pub mailed_from-counts : (sender : Sender) (k : ℕ) (begun : List Bool) (xs : ℕ → List Post) (desks : List Desk) → mirror_counts (mailed_from sender k begun xs desks) ≡ mirror_counts desks
+mailed_from-counts sender k begun xs [] = refl
+mailed_from-counts sender k begun xs (d ∷ desks) =
+    ap (λ n. n ∷ mirror_counts (mailed_from sender (k + 1) begun xs desks)) (with_mail-length sender (slice_index_or begun k false) (xs k) d)
+    ∙ ap (λ l. length d.buffer.plain ∷ l) (mailed_from-counts sender (k + 1) begun xs desks)
 
 -- ---- for whom a batch was begun
 
@@ -105,29 +106,26 @@ alone_elsewhere route value k h = go (route.fragment == k) refl
     go true e = absurd (h (sym (eqb-true route.fragment k e)))
     go false e = refl
 
-one_from : (k p : ℕ) (begun : List Bool) (route : Route) (value : ℕ) (e : Desk) (desks : List Desk) → k + p ≡ route.fragment → p < length desks →
-    slice_set desks p (record (slice_index_or desks p e) { buffer = with_mail (slice_index_or begun route.fragment false) (record { mirror = route.mirror; value = value } ∷ []) (slice_index_or desks p e).buffer })
-    ≡ mailed_from k begun (alone route value) desks
-one_from k p begun route value e [] s h = absurd (omega (arith, h))
-one_from k zero begun route value e (d ∷ desks) s h =
+one_from : (sender : Sender) (k p : ℕ) (begun : List Bool) (route : Route) (value : ℕ) (e : Desk) (desks : List Desk) → k + p ≡ route.fragment → p < length desks →
+    slice_set desks p (with_mail sender (slice_index_or begun route.fragment false) (record { mirror = route.mirror; value = value } ∷ []) (slice_index_or desks p e)) ≡ mailed_from sender k begun (alone route value) desks
+one_from sender k p begun route value e [] s h = absurd (omega (arith, h))
+one_from sender k zero begun route value e (d ∷ desks) s h =
     let here : route.fragment ≡ k = omega (arith, s) in
-    let rest = mailed_from-none (k + 1) begun (alone route value) desks (λ j l. alone_elsewhere route value j (omega (arith, l, here))) in
-    ap (λ n. record d { buffer = with_mail (slice_index_or begun n false) (record { mirror = route.mirror; value = value } ∷ []) d.buffer } ∷ desks) here
-    ∙ (ap (λ l. record d { buffer = with_mail (slice_index_or begun k false) l d.buffer } ∷ desks) (sym (alone_here route value) ∙ ap (alone route value) here)
-    ∙ ap (λ l. record d { buffer = with_mail (slice_index_or begun k false) (alone route value k) d.buffer } ∷ l) (sym rest))
-one_from k (suc p) begun route value e (d ∷ desks) s h =
+    let rest = mailed_from-none sender (k + 1) begun (alone route value) desks (λ j l. alone_elsewhere route value j (omega (arith, l, here))) in
+    ap (λ n. with_mail sender (slice_index_or begun n false) (record { mirror = route.mirror; value = value } ∷ []) d ∷ desks) here
+    ∙ (ap (λ l. with_mail sender (slice_index_or begun k false) l d ∷ desks) (sym (alone_here route value) ∙ ap (alone route value) here)
+    ∙ ap (λ l. with_mail sender (slice_index_or begun k false) (alone route value k) d ∷ l) (sym rest))
+one_from sender k (suc p) begun route value e (d ∷ desks) s h =
     let there : k ≢ route.fragment = omega (arith, s) in
-    ap (λ l. d ∷ l) (one_from (k + 1) p begun route value e desks (omega (arith, s)) (omega (arith, h)))
-    ∙ ap (λ (b : BufferValues). record d { buffer = b } ∷ mailed_from (k + 1) begun (alone route value) desks)
-    (sym (ap (λ l. with_mail (slice_index_or begun k false) l d.buffer) (alone_elsewhere route value k there) ∙ with_mail-none (slice_index_or begun k false) d.buffer))
+    ap (λ l. d ∷ l) (one_from sender (k + 1) p begun route value e desks (omega (arith, s)) (omega (arith, h)))
+    ∙ ap (λ (x : Desk). x ∷ mailed_from sender (k + 1) begun (alone route value) desks)
+    (sym (ap (λ l. with_mail sender (slice_index_or begun k false) l d) (alone_elsewhere route value k there) ∙ with_mail-none sender (slice_index_or begun k false) d))
 
 -- A post leaves one desk with one more post, in a new batch where none was begun for it.
-pub one_mailed : (begun : List Bool) (route : Route) (value : ℕ) (e : Desk) (desks : List Desk) (b : BufferValues) → route.fragment < length desks →
-    b ≡ with_mail (slice_index_or begun route.fragment false) (record { mirror = route.mirror; value = value } ∷ []) (slice_index_or desks route.fragment e).buffer →
-    slice_set desks route.fragment (record (slice_index_or desks route.fragment e) { buffer = b }) ≡ mailed begun (λ k. posts_along k value (route ∷ [])) desks
-one_mailed begun route value e desks b h s =
-    ap (λ (b : BufferValues). slice_set desks route.fragment (record (slice_index_or desks route.fragment e) { buffer = b })) s
-    ∙ one_from 0 route.fragment begun route value e desks (omega arith) h
+pub one_mailed : (sender : Sender) (begun : List Bool) (route : Route) (value : ℕ) (e : Desk) (desks : List Desk) (d : Desk) → route.fragment < length desks →
+    d ≡ with_mail sender (slice_index_or begun route.fragment false) (record { mirror = route.mirror; value = value } ∷ []) (slice_index_or desks route.fragment e) →
+    slice_set desks route.fragment d ≡ mailed sender begun (λ k. posts_along k value (route ∷ [])) desks
+one_mailed sender begun route value e desks d h s = ap (slice_set desks route.fragment) s ∙ one_from sender 0 route.fragment begun route value e desks (omega arith) h
 
 -- ---- what the calls ask of the desks
 
@@ -149,56 +147,52 @@ desk_is_there desks route h =
 pub mirrors_there : (desks : List Desk) (i : ℕ) (e : Desk) → i < length desks → slice_index (mirror_counts desks) i ≡ length (slice_index_or desks i e).buffer.plain
 mirrors_there desks i e h = get_or-map {X = Desk} {Y = ℕ} (λ (d : Desk). length d.buffer.plain) desks i e 0 h
 
-pub can_begin : (begun : List Bool) (desks : List Desk) (i : ℕ) (e : Desk) → CanBegin begun desks → i < length desks → slice_index_or begun i false ≡ false → batches_in (slice_index_or desks i e).buffer < 2 ^ 64 - 1
-can_begin begun desks i e room h f = room i (slice_index_or desks i e) (slice_get-get_or desks i e h) f
+pub can_begin : (place : ℕ) (begun : List Bool) (desks : List Desk) (i : ℕ) (e : Desk) → CanBegin place begun desks → i < length desks → slice_index_or begun i false ≡ false → CanReceive place (slice_index_or desks i e)
+can_begin place begun desks i e room h f = room i (slice_index_or desks i e) (slice_get-get_or desks i e h) f
 
 -- ---- after some posts
 
 -- the desks got these posts, and batches were begun for those that got some
-pub record AreMailed (before : List Bool) (olds : List Desk) (posts : ℕ → List Post) (begun : List Bool) (desks : List Desk) : Type 0 where
-  pub mail : desks ≡ mailed before posts olds
+pub record AreMailed (sender : Sender) (before : List Bool) (olds : List Desk) (posts : ℕ → List Post) (begun : List Bool) (desks : List Desk) : Type 0 where
+  pub mail : desks ≡ mailed sender before posts olds
   pub batches : AreBegun before posts begun
 
-pub mailed_more : (before begun begun' : List Bool) (olds desks desks' : List Desk) (xs ys zs : ℕ → List Post) → AreMailed before olds xs begun desks → length olds ≤ 64 →
-    desks' ≡ mailed begun ys desks → AreBegun begun ys begun' → ((j : ℕ) → xs j ++ ys j ≡ zs j) → AreMailed before olds zs begun' desks'
-mailed_more before begun begun' olds desks desks' xs ys zs m few d b e =
+pub mailed_more : (sender : Sender) (before begun begun' : List Bool) (olds desks desks' : List Desk) (xs ys zs : ℕ → List Post) → AreMailed sender before olds xs begun desks → length olds ≤ 64 →
+    desks' ≡ mailed sender begun ys desks → AreBegun begun ys begun' → ((j : ℕ) → xs j ++ ys j ≡ zs j) → AreMailed sender before olds zs begun' desks'
+mailed_more sender before begun begun' olds desks desks' xs ys zs m few d b e =
     record {
-      mail = d ∙ (ap (mailed begun ys) m.mail ∙ (mailed_from-more 0 before begun xs ys olds m.batches (omega (arith, few)) ∙ mailed_from-same 0 before (λ j. xs j ++ ys j) zs olds e));
+      mail = d ∙ (ap (mailed sender begun ys) m.mail ∙ (mailed_from-more sender 0 before begun xs ys olds m.batches (omega (arith, few)) ∙ mailed_from-same sender 0 before (λ j. xs j ++ ys j) zs olds e));
       batches = begun_same before begun' (λ j. xs j ++ ys j) zs e (begun_more before begun begun' xs ys m.batches b);
     }
 
-pub mailed_counts : (before begun : List Bool) (olds desks : List Desk) (xs : ℕ → List Post) → AreMailed before olds xs begun desks → mirror_counts desks ≡ mirror_counts olds
-mailed_counts before begun olds desks xs m = ap mirror_counts m.mail ∙ mailed_from-counts 0 before xs olds
+pub mailed_counts : (sender : Sender) (before begun : List Bool) (olds desks : List Desk) (xs : ℕ → List Post) → AreMailed sender before olds xs begun desks → mirror_counts desks ≡ mirror_counts olds
+mailed_counts sender before begun olds desks xs m = ap mirror_counts m.mail ∙ mailed_from-counts sender 0 before xs olds
 
-pub mailed_length : (before begun : List Bool) (olds desks : List Desk) (xs : ℕ → List Post) → AreMailed before olds xs begun desks → length desks ≡ length olds
-mailed_length before begun olds desks xs m = ap (λ (l : List Desk). length l) m.mail ∙ mailed_from-length 0 before xs olds
-
-mailed_at : (k i : ℕ) (before : List Bool) (xs : ℕ → List Post) (olds : List Desk) (d : Desk) → slice_get (mailed_from k before xs olds) i ≡ Some d →
-    (e : Desk) × (slice_get olds i ≡ Some e) × (d ≡ record e { buffer = with_mail (slice_index_or before (k + i) false) (xs (k + i)) e.buffer })
-mailed_at k i before xs [] d h = cc
-mailed_at k zero before xs (e ∷ olds) d h =
+mailed_at : (sender : Sender) (k i : ℕ) (before : List Bool) (xs : ℕ → List Post) (olds : List Desk) (d : Desk) → slice_get (mailed_from sender k before xs olds) i ≡ Some d →
+    (e : Desk) × (slice_get olds i ≡ Some e) × (d ≡ with_mail sender (slice_index_or before (k + i) false) (xs (k + i)) e)
+mailed_at sender k i before xs [] d h = cc
+mailed_at sender k zero before xs (e ∷ olds) d h =
     let here : k ≡ k + 0 = omega arith in
-    let first : record e { buffer = with_mail (slice_index_or before k false) (xs k) e.buffer } ≡ d = cc in
-    (e, refl, sym first ∙ ap (λ n. record e { buffer = with_mail (slice_index_or before n false) (xs n) e.buffer }) here)
-mailed_at k (suc i) before xs (e ∷ olds) d h =
+    let first : with_mail sender (slice_index_or before k false) (xs k) e ≡ d = cc in
+    (e, refl, sym first ∙ ap (λ n. with_mail sender (slice_index_or before n false) (xs n) e) here)
+mailed_at sender k (suc i) before xs (e ∷ olds) d h =
     let there : k + 1 + i ≡ k + suc i = omega arith in
-    let rest = mailed_at (k + 1) i before xs olds d h in
-    (rest.0, rest.1, rest.2 ∙ ap (λ n. record rest.0 { buffer = with_mail (slice_index_or before n false) (xs n) rest.0.buffer }) there)
+    let rest = mailed_at sender (k + 1) i before xs olds d h in
+    (rest.0, rest.1, rest.2 ∙ ap (λ n. with_mail sender (slice_index_or before n false) (xs n) rest.0) there)
 
-not_begun : (b : Bool) (xs : List Post) (d : BufferValues) → (b || not (is_empty xs)) ≡ false → (b ≡ false) × (with_mail b xs d ≡ d)
-not_begun true xs d h = cc
-not_begun false [] d h = (refl, refl)
-not_begun false (x ∷ xs) d h = cc
+not_begun : (sender : Sender) (b : Bool) (xs : List Post) (d : Desk) → (b || not (is_empty xs)) ≡ false → (b ≡ false) × (with_mail sender b xs d ≡ d)
+not_begun sender true xs d h = cc
+not_begun sender false [] d h = (refl, refl)
+not_begun sender false (x ∷ xs) d h = cc
 
-pub mailed_can_begin : (before begun : List Bool) (olds desks : List Desk) (xs : ℕ → List Post) → AreMailed before olds xs begun desks → length olds ≤ 64 → CanBegin before olds → CanBegin begun desks
-mailed_can_begin before begun olds desks xs m few room k d there no_batch =
-    let at = mailed_at 0 k before xs olds d (ap (λ l. slice_get l k) (sym m.mail) ∙ there) in
+pub mailed_can_begin : (sender : Sender) (before begun : List Bool) (olds desks : List Desk) (xs : ℕ → List Post) → AreMailed sender before olds xs begun desks → length olds ≤ 64 → CanBegin sender.place before olds → CanBegin sender.place begun desks
+mailed_can_begin sender before begun olds desks xs m few room k d there no_batch =
+    let at = mailed_at sender 0 k before xs olds d (ap (λ l. slice_get l k) (sym m.mail) ∙ there) in
     let n : 0 + k ≡ k = omega arith in
-    let same = at.2 ∙ ap (λ j. record at.0 { buffer = with_mail (slice_index_or before j false) (xs j) at.0.buffer }) n in
+    let same = at.2 ∙ ap (λ j. with_mail sender (slice_index_or before j false) (xs j) at.0) n in
     let within = slice_get_within olds k at.0 at.1 in
-    let both = not_begun (slice_index_or before k false) (xs k) at.0.buffer (sym (m.batches k (omega (arith, within, few))) ∙ no_batch) in
-    let buffer : d.buffer ≡ at.0.buffer = ap (λ (d : Desk). d.buffer) same ∙ both.1 in
-    subst (λ (b : BufferValues). batches_in b < 2 ^ 64 - 1) (sym buffer) (room k at.0 at.1 both.0)
+    let both = not_begun sender (slice_index_or before k false) (xs k) at.0 (sym (m.batches k (omega (arith, within, few))) ∙ no_batch) in
+    subst (CanReceive sender.place) (sym (same ∙ both.1)) (room k at.0 at.1 both.0)
 
 -- ---- along a row, and over the rows
 
@@ -211,10 +205,10 @@ along_more k value row i d h =
     ∙ (ap (λ l. map {B = Post} (λ (t : Route). record { mirror = t.mirror; value = value }) l) (filter-append (λ (t : Route). t.fragment == k) (take i row) (r ∷ []))
     ∙ map-append (λ (t : Route). record { mirror = t.mirror; value = value }) (filter (λ (t : Route). t.fragment == k) (take i row)) (filter (λ (t : Route). t.fragment == k) (r ∷ []))))
 
-pub none_mailed : (before : List Bool) (olds : List Desk) (xs : ℕ → List Post) → ((j : ℕ) → xs j ≡ []) → AreMailed before olds xs before olds
-none_mailed before olds xs h =
+pub none_mailed : (sender : Sender) (before : List Bool) (olds : List Desk) (xs : ℕ → List Post) → ((j : ℕ) → xs j ≡ []) → AreMailed sender before olds xs before olds
+none_mailed sender before olds xs h =
     record {
-      mail = sym (mailed_from-none 0 before xs olds (λ j l. h j));
+      mail = sym (mailed_from-none sender 0 before xs olds (λ j l. h j));
       batches = λ k l. or_false (slice_index_or before k false) (xs k) (h k);
     }
   where
@@ -259,30 +253,33 @@ same_row k old new routes p h l m e =
     ∙ (rows_more k old new routes p h l m ∙ ap (λ n. posts_to k old new (take n routes)) (sym (add-one p)))
 
 -- nothing was sent
-pub mailed_same : (before begun : List Bool) (olds desks : List Desk) (xs zs : ℕ → List Post) → AreMailed before olds xs begun desks → ((j : ℕ) → xs j ++ [] ≡ zs j) → AreMailed before olds zs begun desks
-mailed_same before begun olds desks xs zs m e =
+pub mailed_same : (sender : Sender) (before begun : List Bool) (olds desks : List Desk) (xs zs : ℕ → List Post) → AreMailed sender before olds xs begun desks → ((j : ℕ) → xs j ++ [] ≡ zs j) → AreMailed sender before olds zs begun desks
+mailed_same sender before begun olds desks xs zs m e =
     let same : (j : ℕ) → xs j ≡ zs j = λ j. sym (append-nil (xs j)) ∙ e j in
-    record { mail = m.mail ∙ mailed_from-same 0 before xs zs olds same; batches = begun_same before begun xs zs same m.batches }
+    record { mail = m.mail ∙ mailed_from-same sender 0 before xs zs olds same; batches = begun_same before begun xs zs same m.batches }
 
 -- at the start no batch is begun, and at the end the posts of all places were sent
-pub mail_begins : (olds : List Desk) (xs : ℕ → List Post) (begun : List Bool) → begun ≡ replicate 64 false → ((j : ℕ) → xs j ≡ []) → AreMailed [] olds xs begun olds
-mail_begins olds xs begun e h =
+pub mail_begins : (sender : Sender) (olds : List Desk) (xs : ℕ → List Post) (begun : List Bool) → begun ≡ replicate 64 false → ((j : ℕ) → xs j ≡ []) → AreMailed sender [] olds xs begun olds
+mail_begins sender olds xs begun e h =
     record {
-      mail = sym (mailed_from-none 0 [] xs olds (λ j l. h j));
+      mail = sym (mailed_from-none sender 0 [] xs olds (λ j l. h j));
       batches = λ k l. ap (λ (b : List Bool). slice_index_or b k false) e ∙ (none_begun 64 (omega arith) k l ∙ ap (λ (ps : List Post). not (is_empty ps)) (sym (h k)));
     }
 
-posted_is_mailed : (k : ℕ) (old new : List ℕ) (routes : List (List Route)) (desks : List Desk) → mailed_from k [] (λ j. posts_to j old new routes) desks ≡ posted_from k old new routes desks
-posted_is_mailed k old new routes [] = refl
-posted_is_mailed k old new routes (d ∷ desks) = ap (λ l. record d { buffer = with_batch_of (posts_to k old new routes) d.buffer } ∷ l) (posted_is_mailed (k + 1) old new routes desks)
+posted_is_mailed : (sender : Sender) (k : ℕ) (old new : List ℕ) (routes : List (List Route)) (desks : List Desk) → mailed_from sender k [] (λ j. posts_to j old new routes) desks ≡ posted_from sender k old new routes desks
+posted_is_mailed sender k old new routes [] = refl
+posted_is_mailed sender k old new routes (d ∷ desks) = ap (λ l. with_batch_of sender (posts_to k old new routes) d ∷ l) (posted_is_mailed sender (k + 1) old new routes desks)
 
-pub mail_ends : (old new : List ℕ) (routes : List (List Route)) (n : ℕ) (olds desks : List Desk) (begun : List Bool) → AreMailed [] olds (λ j. posts_to j old new (take n routes)) begun desks → length routes ≡ n → desks ≡ posted old new routes olds
-mail_ends old new routes n olds desks begun m e =
-    m.mail ∙ (mailed_from-same 0 [] (λ j. posts_to j old new (take n routes)) (λ j. posts_to j old new routes) olds (λ j. ap (posts_to j old new) (take_all n routes (omega (arith, e)))) ∙ posted_is_mailed 0 old new routes olds)
+pub mail_ends : (sender : Sender) (old new : List ℕ) (routes : List (List Route)) (n : ℕ) (olds desks : List Desk) (begun : List Bool) →
+    AreMailed sender [] olds (λ j. posts_to j old new (take n routes)) begun desks → length routes ≡ n → desks ≡ posted sender old new routes olds
+mail_ends sender old new routes n olds desks begun m e =
+    m.mail
+    ∙ (mailed_from-same sender 0 [] (λ j. posts_to j old new (take n routes)) (λ j. posts_to j old new routes) olds (λ j. ap (posts_to j old new) (take_all n routes (omega (arith, e))))
+    ∙ posted_is_mailed sender 0 old new routes olds)
 
-pub rooms : (desks : List Desk) → HaveRoom desks → CanBegin [] desks
-rooms desks room k d there f =
-    subst (λ (d : Desk). batches_in d.buffer < 2 ^ 64 - 1) (get_or_from_slice_get desks k d d there) (All-get_or (λ d. batches_in d.buffer < 2 ^ 64 - 1) desks k d (slice_get_within desks k d there) room)
+pub can_receive : (place : ℕ) (desks : List Desk) → AllCanReceive place desks → CanBegin place [] desks
+can_receive place desks room k d there f =
+    subst (CanReceive place) (get_or_from_slice_get desks k d d there) (All-get_or (CanReceive place) desks k d (slice_get_within desks k d there) room)
 
 pub row_leads : (routes : List (List Route)) (desks olds : List Desk) (p : ℕ) → LeadToDesks routes olds → p < length routes → mirror_counts desks ≡ mirror_counts olds →
     All (λ r. r.mirror < slice_index (mirror_counts desks) r.fragment) (slice_index_or routes p [])
@@ -290,21 +287,21 @@ row_leads routes desks olds p lead h e =
     subst (λ (l : List ℕ). All (λ (r : Route). r.mirror < slice_index l r.fragment) (slice_index_or routes p [])) (sym e)
     (All-get_or (λ row. All (λ (r : Route). r.mirror < slice_index (mirror_counts olds) r.fragment) row) routes p [] h lead)
 
-pub row_mailed : (old new : List ℕ) (routes : List (List Route)) (p value : ℕ) (row : List Route) (olds desks desks' : List Desk) (begun begun' : List Bool) →
-    AreMailed [] olds (λ j. posts_to j old new (take p routes)) begun desks → length olds ≤ 64 → p < length old → length routes ≡ length old → length old ≤ length new →
+pub row_mailed : (sender : Sender) (old new : List ℕ) (routes : List (List Route)) (p value : ℕ) (row : List Route) (olds desks desks' : List Desk) (begun begun' : List Bool) →
+    AreMailed sender [] olds (λ j. posts_to j old new (take p routes)) begun desks → length olds ≤ 64 → p < length old → length routes ≡ length old → length old ≤ length new →
     value ≡ slice_index new p → row ≡ slice_index_or routes p [] → slice_index old p ≢ slice_index new p →
-    desks' ≡ mailed begun (λ j. posts_along j value row) desks → AreBegun begun (λ j. posts_along j value row) begun' → AreMailed [] olds (λ j. posts_to j old new (take (p + 1) routes)) begun' desks'
-row_mailed old new routes p value row olds desks desks' begun begun' m few l r n ev er d mail batches =
-    mailed_more [] begun begun' olds desks desks' _ (λ j. posts_along j value row) (λ j. posts_to j old new (take (p + 1) routes)) m few mail batches
+    desks' ≡ mailed sender begun (λ j. posts_along j value row) desks → AreBegun begun (λ j. posts_along j value row) begun' → AreMailed sender [] olds (λ j. posts_to j old new (take (p + 1) routes)) begun' desks'
+row_mailed sender old new routes p value row olds desks desks' begun begun' m few l r n ev er d mail batches =
+    mailed_more sender [] begun begun' olds desks desks' _ (λ j. posts_along j value row) (λ j. posts_to j old new (take (p + 1) routes)) m few mail batches
     (λ j.
     ap (λ v. posts_to j old new (take p routes) ++ posts_along j v row) ev
     ∙ (ap (λ q. posts_to j old new (take p routes) ++ posts_along j (slice_index new p) q) er
     ∙ changed_row j old new routes p (omega (arith, r, l)) l (omega (arith, l, n)) d))
 
-pub row_left : (old new : List ℕ) (routes : List (List Route)) (p : ℕ) (olds desks desks' : List Desk) (begun begun' : List Bool) →
-    AreMailed [] olds (λ j. posts_to j old new (take p routes)) begun desks → p < length old → length routes ≡ length old → length old ≤ length new →
-    slice_index old p ≡ slice_index new p → desks' ≡ desks → begun' ≡ begun → AreMailed [] olds (λ j. posts_to j old new (take (p + 1) routes)) begun' desks'
-row_left old new routes p olds desks desks' begun begun' m l r n e ed eb =
-    let same = mailed_same [] begun olds desks _ (λ j. posts_to j old new (take (p + 1) routes)) m (λ j. same_row j old new routes p (omega (arith, r, l)) l (omega (arith, l, n)) e) in
-    subst (λ (ds : List Desk). AreMailed [] olds (λ j. posts_to j old new (take (p + 1) routes)) begun' ds) (sym ed)
-    (subst (λ (b : List Bool). AreMailed [] olds (λ j. posts_to j old new (take (p + 1) routes)) b desks) (sym eb) same)
+pub row_left : (sender : Sender) (old new : List ℕ) (routes : List (List Route)) (p : ℕ) (olds desks desks' : List Desk) (begun begun' : List Bool) →
+    AreMailed sender [] olds (λ j. posts_to j old new (take p routes)) begun desks → p < length old → length routes ≡ length old → length old ≤ length new →
+    slice_index old p ≡ slice_index new p → desks' ≡ desks → begun' ≡ begun → AreMailed sender [] olds (λ j. posts_to j old new (take (p + 1) routes)) begun' desks'
+row_left sender old new routes p olds desks desks' begun begun' m l r n e ed eb =
+    let same = mailed_same sender [] begun olds desks _ (λ j. posts_to j old new (take (p + 1) routes)) m (λ j. same_row j old new routes p (omega (arith, r, l)) l (omega (arith, l, n)) e) in
+    subst (λ (ds : List Desk). AreMailed sender [] olds (λ j. posts_to j old new (take (p + 1) routes)) begun' ds) (sym ed)
+    (subst (λ (b : List Bool). AreMailed sender [] olds (λ j. posts_to j old new (take (p + 1) routes)) b desks) (sym eb) same)

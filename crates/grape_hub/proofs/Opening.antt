@@ -6,7 +6,7 @@ use Rattle.std.proofs.lemmas.List.FromFn.{length-range_with_len, length-map-rang
 use Rattle.graph_core.specs.declared.job.Job.{Job}
 use Rattle.graph_core.specs.Graphs.{count_of, IsJob}
 use Rattle.graph_core.specs.Parts.{FragmentLists}
-use Rattle.graph_core.specs.Fragments.{Piece, no_piece, piece_at, piece_of, pieces_of, places, numbers_below, StandsAt, fragment_of, fragments_of, owned_of, mirrors_of}
+use Rattle.graph_core.specs.Fragments.{no_piece, piece_at, piece_of, pieces_of, places, numbers_below, StandsAt, fragment_of, fragments_of, owned_of, mirrors_of}
 use Rattle.graph_core.proofs.Cutting.{fragments_cut, stands_left, stands_right}
 use Rattle.grape_hub.specs.Openings.{IsPartOf, HasFewOwned}
 

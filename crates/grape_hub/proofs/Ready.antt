@@ -1,12 +1,11 @@
 -- A Work that a lane took may be evaluated.
-use Rattle.std.proofs.Common.{◌≡◌, ℕ, ◌+◌, ◌*◌, ◌<◌, inl, inr, Bool, true, false, IsTrue, if◌then◌else◌, refl, sym, ◌∙◌, ap, subst, arith, List, [], ◌∷◌, ◌++◌, length, slice_index}
-use Rattle.std.proofs.lemmas.Bool.{eq-eqb}
+use Rattle.std.proofs.Common.{◌≡◌, ℕ, ◌*◌, ◌<◌, inl, inr, Bool, true, false, refl, sym, ◌∙◌, ap, subst, arith, [], ◌∷◌, ◌++◌, length, slice_index}
 use Rattle.std.proofs.lemmas.List.{length-map, get_or-map, get_or-set_same}
 use Rattle.std.proofs.lemmas.List.FromFn.{get_or-map-range_with_len}
 use Rattle.value_order.specs.Order.{Below}
 use Rattle.graph_core.specs.Equations.{Assignment, IsGreatest}
 use Rattle.graph_core.specs.Queries.{equations_of}
-use Rattle.graph_core.specs.Fragments.{Piece, piece_at, piece_of, pieces_of, no_piece, places, fragment_of, numbers_below}
+use Rattle.graph_core.specs.Fragments.{Piece, piece_at, piece_of, no_piece, places, fragment_of, numbers_below}
 use Rattle.graph_core.proofs.Greatest.{greatest_is_there}
 use Rattle.grape_event.specs.declared.event.Event.{Event}
 use Rattle.grape_event.specs.declared.event.Event.TheVariants.{Take}
@@ -23,7 +22,7 @@ use Rattle.grape_hub.specs.HubValues.{HubValues}
 use Rattle.grape_hub.specs.States.{machine, beginning, state_of, workers_of, IsHub}
 use Rattle.grape_hub.specs.Calls.{Appended, IsWork, IsReady}
 use Rattle.grape_hub.proofs.Answering.{sound, part_count, fit}
-use Rattle.grape_hub.proofs.Idling.{fresh_or_rests}
+use Rattle.legal_journal.proofs.Choosing.{fresh_or_rests}
 
 -- ---- what holds of each worker of a hub
 

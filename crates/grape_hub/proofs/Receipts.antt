@@ -1,4 +1,4 @@
--- What a batch leaves in the buffer of the worker that gets it.
+-- What a batch leaves at the desk of the worker that gets it.
 use Rattle.std.proofs.Common.{◌≡◌, ℕ, zero, suc, ◌+◌, ◌<◌, ◌≤◌, false, ◌==◌, cond, if◌then◌else◌, refl, sym, ◌∙◌, ap, arith, List, [], ◌∷◌, ◌++◌, length, length-append, map, filter, slice_index, slice_index_or, slice_set, replicate, take}
 use Rattle.std.proofs.lemmas.Bool.{eq-eqb, ne_eqb}
 use Rattle.std.proofs.lemmas.List.Sums.{sum_by-set}
@@ -13,6 +13,8 @@ use Rattle.message_buffer.specs.Buffers.{with_batch, with_post}
 use Rattle.base_machine.specs.Machine.{System, Worker, Post, Batch, is_empty, posts_to, values_for, batches_waiting, after_receiving}
 use Rattle.legal_journal.specs.Legal.{mail_with}
 use Rattle.legal_journal.proofs.Recording.{part_received}
+use Rattle.grape_hub.specs.declared.desk.Desk.{Desk}
+use Rattle.grape_hub.specs.declared.sender.Sender.{Sender}
 use Rattle.grape_hub.specs.Desks.{buffer_of}
 use Rattle.grape_hub.specs.Posting.{with_posts, with_batch_of}
 
@@ -63,9 +65,9 @@ one_more_waits j number p posts w h =
     let start : ℕ = if is_empty w.start_posts then 0 else 1 in
     omega (arith, s, l)
 
-pub received_buffer : (sys : System) (piece : Piece) (j number : ℕ) (posts : List Post) (w : Worker) → j < length w.mail → with_batch_of posts (buffer_of sys piece w) ≡ buffer_of sys piece (after_receiving j number posts w)
-received_buffer sys piece j number [] w h = refl
-received_buffer sys piece j number (p ∷ posts) w h =
+received_posts : (sys : System) (piece : Piece) (j number : ℕ) (p : Post) (posts : List Post) (w : Worker) → j < length w.mail →
+    with_posts (p ∷ posts) (with_batch false (buffer_of sys piece w)) ≡ buffer_of sys piece (after_receiving j number (p ∷ posts) w)
+received_posts sys piece j number p posts w h =
     let met = ap (λ (part : PartValues). part.mail) (part_received sys piece j number (p ∷ posts) w h) in
     let count = one_more_waits j number p posts w h in
     posts_are_mail (p ∷ posts) (with_batch false (buffer_of sys piece w))
@@ -76,6 +78,18 @@ received_buffer sys piece j number (p ∷ posts) w h =
       plain_batches = sym count i;
       tagged_batches = 0;
     }
+
+pub received_buffer : (sys : System) (piece : Piece) (sender : Sender) (j number : ℕ) (posts : List Post) (w : Worker) (d : Desk) → j < length w.mail → d.buffer ≡ buffer_of sys piece w →
+    (with_batch_of sender posts d).buffer ≡ buffer_of sys piece (after_receiving j number posts w)
+received_buffer sys piece sender j number [] w d h e = e
+received_buffer sys piece sender j number (p ∷ posts) w d h e = ap (λ (b : BufferValues). with_posts (p ∷ posts) (with_batch false b)) e ∙ received_posts sys piece j number p posts w h
+
+-- ---- a desk that gets a batch
+
+-- its values and its delay stay
+pub seat_stays : (sender : Sender) (posts : List Post) (d : Desk) → ((with_batch_of sender posts d).seat ≡ d.seat) × ((with_batch_of sender posts d).delay ≡ d.delay)
+seat_stays sender [] d = (refl, refl)
+seat_stays sender (p ∷ posts) d = (refl, refl)
 
 -- ---- what lies beyond the routes
 

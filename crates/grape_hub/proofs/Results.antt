@@ -1,5 +1,5 @@
 -- What stands at an Ok and at an Err.
-use Rattle.std.proofs.Common.{◌≡◌, Bool, true, false, refl, sym, ◌∙◌, Result, Ok, Err}
+use Rattle.std.proofs.Common.{◌≡◌, true, false, sym, Result, Ok, Err}
 use Rattle.std.specs.Result.{is_err, OnOk, OnErr}
 use Rattle.std.proofs.lemmas.Bool.{false≢true}
 

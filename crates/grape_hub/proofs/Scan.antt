@@ -1,27 +1,42 @@
 -- What the hub finds at its desks is the first event in the order of choice that is admitted.
-use Rattle.std.proofs.Common.{◌≡◌, ℕ, zero, suc, ◌+◌, ◌-◌, ◌<◌, ◌≤◌, ◌⊎◌, inl, inr, Bool, true, false, not, ◌&&◌, ◌||◌, nat_lt, if◌then◌else◌, IsTrue, refl, sym, ◌∙◌, ap, subst, arith, List, [], ◌∷◌, ◌++◌, length, map, flat_map, slice_get, Option, Some, None}
+use Rattle.std.proofs.Common.{◌≡◌, ℕ, ◌+◌, ◌-◌, ◌<◌, ◌≤◌, ◌⊎◌, inl, inr, Bool, true, false, not, ◌&&◌, ◌||◌, ◌==◌, nat_lt, nat_le, if◌then◌else◌, refl, sym, ◌∙◌, ap, arith, List, [], ◌∷◌, ◌++◌, length, map, slice_get, slice_index, Option, Some, None}
 use Rattle.std.specs.List.{range_with_len}
 use Rattle.std.specs.Option.{is_some}
-use Rattle.std.proofs.lemmas.Bool.{lt-ltb, le-ltb, le-leb, and_left, not_from_false, cases_lt, false≢true}
+use Rattle.std.proofs.lemmas.Bool.{lt-ltb, le-ltb, le-leb, lt-leb, ne_eqb, or_left, or_right, or_from, not_from_true, not_from_false, false_from_ne_true, cases_lt, false≢true}
+use Rattle.std.proofs.lemmas.Option.{none-some, same_Some, slice_get_within}
 use Rattle.graph_core.specs.declared.fragment.Route.{Route}
-use Rattle.graph_core.specs.Fragments.{piece_at, numbers_below}
+use Rattle.graph_core.specs.declared.settings.Policy.{Policy}
+use Rattle.graph_core.specs.declared.settings.Policy.TheVariants.{Bsp, Ap, Ssp, Aap}
+use Rattle.graph_core.specs.Fragments.{numbers_below}
 use Rattle.grape_event.specs.declared.event.Event.{Event}
-use Rattle.grape_event.specs.declared.event.Event.TheVariants.{Take, Stretch}
+use Rattle.grape_event.specs.declared.event.Event.TheVariants.{Flag, Ack, Nack, Mark}
 use Rattle.message_buffer.specs.BufferValues.{BufferValues}
 use Rattle.message_buffer.specs.Buffers.{batches_in}
 use Rattle.base_machine.specs.Machine.{System, Worker, Standing, worker_at, is_fresh, is_running, rests, batch_waits, batches_waiting}
 use Rattle.base_machine.specs.Machine.Standing.{Fresh, Running, Rest}
 use Rattle.legal_journal.specs.Past.{has_ended, stretch_of}
-use Rattle.legal_journal.specs.Delays.{stretch_is_over}
-use Rattle.legal_journal.specs.Legal.{State, worker_count, has_work_out, rests_with_mail, is_stretched, stretch_from, may_take, may_stretch, is_worker, is_admitted, row_admits}
-use Rattle.legal_journal.specs.Choices.{first_admitted, in_turn, first_in_turn}
+use Rattle.legal_journal.specs.Delays.{stretch_is_over, has_enough, delay_is_over, is_busy, is_within, is_fresh_enough}
+use Rattle.legal_journal.specs.Legal.{State, worker_count, has_work_out, rests_with_mail, rests_without_mail, is_stretched, stretch_from, snapshot_is_due, is_unmarked, tagged_batch_waits, may_take, may_stretch, may_hold, may_flag, may_ack, may_nack, may_mark, is_worker, is_admitted, row_admits}
+use Rattle.legal_journal.specs.Choices.{first_admitted, in_turn, first_in_turn, next_choice}
 use Rattle.legal_journal.proofs.Choosing.{first-append_none, first-append_some}
+use Rattle.legal_journal.proofs.Walks.{all_below, all_from_each}
+use Rattle.legal_journal.proofs.Probes.{both}
+use Rattle.stop_probe.specs.ProbeValues.{ProbeValues}
+use Rattle.stop_probe.specs.Probe.{may_flag as probe_may_flag, may_answer, took_since_ask}
+use Rattle.stop_probe.specs.Journals.{probe_at}
+use Rattle.stop_probe.proofs.Following.{meets_the_table}
+use Rattle.grape_hub.specs.declared.desk.Delay.{Delay}
 use Rattle.grape_hub.specs.declared.desk.Desk.{Desk}
 use Rattle.grape_hub.specs.declared.desk.Seat.{Seat}
 use Rattle.grape_hub.specs.declared.desk.Seat.TheVariants.{Here, Out}
-use Rattle.grape_hub.specs.Choice.{choice_of, built_events}
-use Rattle.grape_hub.specs.Desks.{DeskFits, SeatFits, TablesFit, buffer_of, may_take_at, may_stretch_at, holds_at, first_where, first_desk}
-use Rattle.grape_hub.proofs.Plain.{IsPlain, is_ready, take_row, stretch_row, no_stretch}
+use Rattle.grape_hub.specs.declared.kind.Kind.{Kind}
+use Rattle.grape_hub.specs.declared.kind.Kind.TheVariants as kind
+use Rattle.grape_hub.specs.declared.sight.Sight.{Sight}
+use Rattle.grape_hub.specs.Choices.{event_of, event_if, IsChoice}
+use Rattle.grape_hub.specs.Desks.{DeskFits, SeatFits, TablesFit, turns_and_place, is_fresh_at, rests_at, is_out, has_mail, is_busy_at}
+use Rattle.grape_hub.specs.Kinds.{IsLeastRound, is_near, is_near_enough, turns_are_over, is_over, admits, holds_at, first_where, first_desk, kinds, found_or, first_of_kinds}
+use Rattle.grape_hub.proofs.Plain.{IsPlain, not_due, not_unmarked, none_unmarked}
+use Rattle.grape_hub.proofs.Searching.{holds_in, holds_past, desk_there}
 
 -- ---- a desk
 
@@ -42,76 +57,81 @@ running_is w h = go w.standing h
     go (Running hand) h = (refl, refl)
     go Rest h = absurd (false≢true h)
 
--- a Stretch that has no turns is over at once
-over_if_stretched : (o : Option (ℕ × ℕ)) (clock : ℕ) → ((turns place : ℕ) → o ≡ Some (turns, place) → (turns ≡ 0) × (place < clock)) → stretch_is_over o clock ≡ is_some o
-over_if_stretched None clock h = refl
-over_if_stretched (Some s) clock h =
-    let k = h s.0 s.1 refl in
-    let z = k.0 in
-    let l = k.1 in
-    le-leb (s.1 + 1 + s.0) clock (omega (arith, z, l))
+turns_over : (turns place clock : ℕ) → nat_lt turns (clock - place) ≡ nat_le (place + 1 + turns) clock
+turns_over turns place clock = elim (cases_lt turns (clock - place)) [
+  | inl l ↦ lt-ltb turns (clock - place) l ∙ sym (le-leb (place + 1 + turns) clock (omega (arith, l)))
+  | inr g ↦ le-ltb turns (clock - place) g ∙ sym (lt-leb (place + 1 + turns) clock (omega (arith, g)))
+]
 
-take_cases : (f r m o : Bool) → r ≡ not f → (f || ((r && m) && o)) ≡ (f || (m && o))
-take_cases true r m o h = refl
-take_cases false r m o h = ap (λ x. (x && m) && o) h
+delays_agree : (o : Option Delay) (clock : ℕ) → turns_are_over o clock ≡ stretch_is_over (turns_and_place o) clock
+delays_agree None clock = refl
+delays_agree (Some delay) clock = turns_over delay.turns delay.place clock
 
-stretch_cases : (f r m o : Bool) → r ≡ not f → ((r && m) && not o) ≡ (not f && (m && not o))
-stretch_cases true r m o h = ap (λ x. (x && m) && not o) h
-stretch_cases false r m o h = ap (λ x. (x && m) && not o) h
+delay_or_none : (o : Option Delay) → is_some o ≡ is_some (turns_and_place o)
+delay_or_none None = refl
+delay_or_none (Some delay) = refl
 
 module _ (sys : System) (s : State) (counters i : ℕ) (d : Desk) (fits : DeskFits sys s counters i d) where
-  waits_is : nat_lt 0 (batches_in d.buffer) ≡ batch_waits (worker_at s.workers i)
-  waits_is = ap (λ (b : BufferValues). nat_lt 0 (batches_in b)) fits.buffer ∙ ap (λ n. nat_lt 0 n) (omega arith)
-
-  over_is : stretch_is_over (stretch_of i s.past) (length s.past) ≡ is_stretched s i
-  over_is = over_if_stretched (stretch_of i s.past) (length s.past) fits.no_turns
-
-  pub desk_takes : may_take_at d ≡ is_ready s i
-  desk_takes = go d.seat fits.seat
+  pub fresh_is : is_fresh_at d ≡ is_fresh (worker_at s.workers i)
+  fresh_is = go d.seat fits.seat
     where
-      go : (seat : Seat) → SeatFits sys s counters i seat → elim seat [ Here fresh local hand ↦ fresh || (nat_lt 0 (batches_in d.buffer) && d.stretched) | Out lane place ↦ false ] ≡ is_ready s i
-      go (Here fresh local hand) k =
-          ap (λ f. f || (nat_lt 0 (batches_in d.buffer) && d.stretched)) k.1
-          ∙ (ap (λ b. is_fresh (worker_at s.workers i) || (b && d.stretched)) waits_is
-          ∙ (ap (λ b. is_fresh (worker_at s.workers i) || (batch_waits (worker_at s.workers i) && b)) (fits.stretched ∙ sym over_is)
-          ∙ sym (take_cases (is_fresh (worker_at s.workers i)) (rests (worker_at s.workers i)) (batch_waits (worker_at s.workers i)) (stretch_is_over (stretch_of i s.past) (length s.past)) (standing_here (worker_at s.workers i) k.0))))
-      go (Out lane place) k =
-          let r = running_is (worker_at s.workers i) k.0 in
-          sym (ap (λ f. f || (rests_with_mail s i && stretch_is_over (stretch_of i s.past) (length s.past))) r.0
-          ∙ ap (λ f. (f && batch_waits (worker_at s.workers i)) && stretch_is_over (stretch_of i s.past) (length s.past)) r.1)
+      go : (seat : Seat) → SeatFits sys s counters i seat → elim seat [ Here fresh local hand ↦ fresh | Out lane place ↦ false ] ≡ is_fresh (worker_at s.workers i)
+      go (Here fresh local hand) k = k.1
+      go (Out lane place) k = sym (running_is (worker_at s.workers i) k.0).0
 
-  pub desk_stretches : may_stretch_at d ≡ (rests_with_mail s i && not (is_stretched s i))
-  desk_stretches = go d.seat fits.seat
+  pub rests_is : rests_at d ≡ rests (worker_at s.workers i)
+  rests_is = go d.seat fits.seat
     where
-      go : (seat : Seat) → SeatFits sys s counters i seat → elim seat [ Here fresh local hand ↦ not fresh && (nat_lt 0 (batches_in d.buffer) && not d.stretched) | Out lane place ↦ false ] ≡ (rests_with_mail s i && not (is_stretched s i))
-      go (Here fresh local hand) k =
-          ap (λ f. not f && (nat_lt 0 (batches_in d.buffer) && not d.stretched)) k.1
-          ∙ (ap (λ b. not (is_fresh (worker_at s.workers i)) && (b && not d.stretched)) waits_is
-          ∙ (ap (λ b. not (is_fresh (worker_at s.workers i)) && (batch_waits (worker_at s.workers i) && not b)) fits.stretched
-          ∙ sym (stretch_cases (is_fresh (worker_at s.workers i)) (rests (worker_at s.workers i)) (batch_waits (worker_at s.workers i)) (is_stretched s i) (standing_here (worker_at s.workers i) k.0))))
-      go (Out lane place) k =
-          let r = running_is (worker_at s.workers i) k.0 in
-          sym (ap (λ f. (f && batch_waits (worker_at s.workers i)) && not (is_stretched s i)) r.1)
+      go : (seat : Seat) → SeatFits sys s counters i seat → elim seat [ Here fresh local hand ↦ not fresh | Out lane place ↦ false ] ≡ rests (worker_at s.workers i)
+      go (Here fresh local hand) k = ap not k.1 ∙ sym (standing_here (worker_at s.workers i) k.0)
+      go (Out lane place) k = sym (running_is (worker_at s.workers i) k.0).1
+
+  pub out_is : is_out d ≡ is_running (worker_at s.workers i)
+  out_is = go d.seat fits.seat
+    where
+      go : (seat : Seat) → SeatFits sys s counters i seat → elim seat [ Here fresh local hand ↦ false | Out lane place ↦ true ] ≡ is_running (worker_at s.workers i)
+      go (Here fresh local hand) k = sym k.0
+      go (Out lane place) k = sym k.0
+
+  batches_are : batches_in d.buffer ≡ batches_waiting (worker_at s.workers i)
+  batches_are = ap (λ (b : BufferValues). batches_in b) fits.buffer ∙ omega arith
+
+  pub mail_is : has_mail d ≡ batch_waits (worker_at s.workers i)
+  mail_is = ap (λ n. nat_lt 0 n) batches_are
+
+  pub busy_is : is_busy_at d ≡ is_busy (worker_at s.workers i)
+  busy_is = ap (λ x. (x || is_out d) || has_mail d) fresh_is ∙ (ap (λ x. (is_fresh (worker_at s.workers i) || x) || has_mail d) out_is ∙ ap (λ x. (is_fresh (worker_at s.workers i) || is_running (worker_at s.workers i)) || x) mail_is)
+
+  rests_with : (rests_at d && has_mail d) ≡ rests_with_mail s i
+  rests_with = ap (λ x. x && has_mail d) rests_is ∙ ap (λ x. rests (worker_at s.workers i) && x) mail_is
+
+  rests_without : (rests_at d && not (has_mail d)) ≡ rests_without_mail s i
+  rests_without = ap (λ x. x && not (has_mail d)) rests_is ∙ ap (λ x. rests (worker_at s.workers i) && not x) mail_is
+
+  stretched_is : is_some d.delay ≡ is_stretched s i
+  stretched_is = delay_or_none d.delay ∙ ap (λ (o : Option (ℕ × ℕ)). is_some o) (sym fits.delay)
+
+  over_is : (sight : Sight) → sight.policy ≡ sys.settings.policy → sight.clock ≡ length s.past → is_over sight d ≡ delay_is_over sys.settings.policy s.workers s.past i
+  over_is sight p c =
+      ap (λ x. x || has_enough sight.policy (batches_in d.buffer)) (ap (turns_are_over d.delay) c ∙ (delays_agree d.delay (length s.past) ∙ ap (λ o. stretch_is_over o (length s.past)) (sym fits.delay)))
+      ∙ (ap (λ q. stretch_is_over (stretch_of i s.past) (length s.past) || has_enough q (batches_in d.buffer)) p
+      ∙ ap (λ n. stretch_is_over (stretch_of i s.past) (length s.past) || has_enough sys.settings.policy n) batches_are)
+
+-- ---- conditions that hold
+
+and_true : (x : Bool) → (x && true) ≡ x
+and_true true = refl
+and_true false = refl
+
+take_parts : (a b c d e f : Bool) → a ≡ true → b ≡ true → e ≡ true → f ≡ true → (((((a && b) && c) && d) && e) && f) ≡ (c && d)
+take_parts a b c d e f ha hb he hf =
+    ap (λ x. ((((x && b) && c) && d) && e) && f) ha
+    ∙ (ap (λ x. (((x && c) && d) && e) && f) hb ∙ (ap (λ x. ((c && d) && x) && f) he ∙ (ap (λ x. ((c && d) && true) && x) hf ∙ (and_true ((c && d) && true) ∙ and_true (c && d)))))
+
+stretch_parts : (a b c d : Bool) → c ≡ true → d ≡ true → (((a && b) && c) && d) ≡ (a && b)
+stretch_parts a b c d hc hd = ap (λ x. ((a && b) && x) && d) hc ∙ (ap (λ x. ((a && b) && true) && x) hd ∙ (and_true ((a && b) && true) ∙ and_true (a && b)))
 
 -- ---- all desks
-
-holds_in : (test : Desk → Bool) (desks : List Desk) (i : ℕ) (d : Desk) → slice_get desks i ≡ Some d → holds_at test desks i ≡ test d
-holds_in test [] i d h = absurd (some-not_none d h)
-  where
-    some-not_none : (d : Desk) → None ≡ Some d → ⊥
-    some-not_none d h = false≢true (ap (λ (o : Option Desk). elim o as (λ _. Bool) [ None ↦ false | Some y ↦ true ]) h)
-holds_in test (x ∷ desks) zero d h = ap test (ap (λ (o : Option Desk). elim o as (λ _. Desk) [ None ↦ x | Some y ↦ y ]) h)
-holds_in test (x ∷ desks) (suc i) d h = holds_in test desks i d h
-
-holds_past : (test : Desk → Bool) (desks : List Desk) (i : ℕ) → length desks ≤ i → holds_at test desks i ≡ false
-holds_past test [] i h = refl
-holds_past test (x ∷ desks) zero h = absurd (omega (arith, h))
-holds_past test (x ∷ desks) (suc i) h = holds_past test desks i (omega (arith, h))
-
-desk_there : (desks : List Desk) (i : ℕ) → i < length desks → (d : Desk) × (slice_get desks i ≡ Some d)
-desk_there [] i h = absurd (omega (arith, h))
-desk_there (d ∷ desks) zero h = (d, refl)
-desk_there (d ∷ desks) (suc i) h = desk_there desks i (omega (arith, h))
 
 -- the first event of a kind that is admitted, where a test says of each number whether it is
 abbrev mapped_option : (ℕ → Event) → Option ℕ → Option Event
@@ -129,62 +149,173 @@ first_of_kind sys s f test h (i ∷ is) = go (is_admitted sys s (f i)) (test i) 
     go false true e again = absurd (false≢true e)
     go false false e again = again
 
--- what is admitted at a state in which the hub's tables fit it
-module _ (sys : System) (s : State) (counters : ℕ) (routes : List (List (List Route))) (desks : List Desk) (turn : ℕ) (p : IsPlain sys s) (fits : TablesFit sys s counters routes desks turn) where
-  -- a row of the table for a worker is what its desk says
-  at_desks : (row : ℕ → Bool) (test : Desk → Bool) → ((i : ℕ) (d : Desk) → slice_get desks i ≡ Some d → test d ≡ row i) → (i : ℕ) → (is_worker s i && row i) ≡ holds_at test desks i
-  at_desks row test h i = elim (cases_lt i (length desks)) [
-    | inl l ↦
-        let c = fits.count in
-        let d = desk_there desks i l in
-        ap (λ b. b && row i) (lt-ltb i (worker_count s) (omega (arith, l, c))) ∙ (sym (h i d.0 d.1) ∙ sym (holds_in test desks i d.0 d.1))
-    | inr l ↦
-        let c = fits.count in
-        ap (λ b. b && row i) (le-ltb i (worker_count s) (omega (arith, l, c))) ∙ sym (holds_past test desks i l)
+none_of_kind : (sys : System) (s : State) (f : ℕ → Event) → ((i : ℕ) → is_admitted sys s (f i) ≡ false) → (is : List ℕ) → first_admitted sys s (map f is) ≡ None
+none_of_kind sys s f h [] = refl
+none_of_kind sys s f h (i ∷ is) = ap (λ b. if b then Some (f i) else first_admitted sys s (map f is)) (h i) ∙ none_of_kind sys s f h is
+
+-- what the desks say of a state that the hub's tables fit
+module _ (sys : System) (s : State) (counters : ℕ) (routes : List (List (List Route))) (desks : List Desk) (probe : ProbeValues) (turn : ℕ) (fits : TablesFit sys s counters routes desks probe turn) where
+  -- a worker's desk
+  desk_of : (i : ℕ) → i < worker_count s → (d : Desk) × (slice_get desks i ≡ Some d)
+  desk_of i l = elim (desk_there desks i) [ inl k ↦ k | inr g ↦ let c = fits.count in absurd (omega (arith, l, g, c)) ]
+
+  -- ---- the policy
+
+  within_all : (c i : ℕ) → ((j : ℕ) → j < worker_count s → is_busy (worker_at s.workers j) ≡ true → slice_index s.rounds i ≤ slice_index s.rounds j + c) → is_within c s.workers s.rounds i ≡ true
+  within_all c i h = all_from_each (λ j. j == i || not (is_busy (worker_at s.workers j)) || nat_le (slice_index s.rounds i) (slice_index s.rounds j + c)) (worker_count s) (λ j l. go j l (is_busy (worker_at s.workers j)) refl)
+    where
+      go : (j : ℕ) → j < worker_count s → (b : Bool) → is_busy (worker_at s.workers j) ≡ b → (j == i || not (is_busy (worker_at s.workers j)) || nat_le (slice_index s.rounds i) (slice_index s.rounds j + c)) ≡ true
+      go j l true e = or_right (j == i || not (is_busy (worker_at s.workers j))) (nat_le (slice_index s.rounds i) (slice_index s.rounds j + c)) (le-leb (slice_index s.rounds i) (slice_index s.rounds j + c) (h j l e))
+      go j l false e = or_left (j == i || not (is_busy (worker_at s.workers j))) (nat_le (slice_index s.rounds i) (slice_index s.rounds j + c)) (or_right (j == i) (not (is_busy (worker_at s.workers j))) (not_from_false (is_busy (worker_at s.workers j)) e))
+
+  within_none : (c i j : ℕ) → j < worker_count s → is_busy (worker_at s.workers j) ≡ true → slice_index s.rounds j + c < slice_index s.rounds i → is_within c s.workers s.rounds i ≡ false
+  within_none c i j l b far = false_from_ne_true (is_within c s.workers s.rounds i) (λ h. both
+      (all_below (λ j. j == i || not (is_busy (worker_at s.workers j)) || nat_le (slice_index s.rounds i) (slice_index s.rounds j + c)) (worker_count s) h j l)
+      (or_from (j == i || not (is_busy (worker_at s.workers j))) (nat_le (slice_index s.rounds i) (slice_index s.rounds j + c))
+      (or_from (j == i) (not (is_busy (worker_at s.workers j))) (ne_eqb j i (λ e. let r = ap (λ n. slice_index s.rounds n) e in absurd (omega (arith, r, far)))) (not_from_true (is_busy (worker_at s.workers j)) b))
+      (lt-leb (slice_index s.rounds i) (slice_index s.rounds j + c) far)))
+
+  -- a busy worker's desk is busy
+  desk_busy : (j : ℕ) → j < worker_count s → is_busy (worker_at s.workers j) ≡ true → (d : Desk) × (slice_get desks j ≡ Some d) × (is_busy_at d ≡ true) × (d.round ≡ slice_index s.rounds j)
+  desk_busy j l b =
+      let k = desk_of j l in
+      let f = fits.fit j k.0 k.1 in
+      (k.0, k.1, busy_is sys s counters j k.0 f ∙ b, f.round)
+
+  near_is : (c : ℕ) (least : Option ℕ) (i : ℕ) → IsLeastRound desks least → is_near c least (slice_index s.rounds i) ≡ is_within c s.workers s.rounds i
+  near_is c None i k = sym (within_all c i (λ j l b. let d = desk_busy j l b in let f = k.below j d.0 d.1 d.2 in absurd (none-some f.0 f.1)))
+  near_is c (Some least) i k = go (cases_lt least (slice_index s.rounds i - c))
+    where
+      go : (least < slice_index s.rounds i - c) ⊎ (slice_index s.rounds i - c ≤ least) → nat_le (slice_index s.rounds i - c) least ≡ is_within c s.workers s.rounds i
+      go (inl far) =
+          let f = k.there least refl in
+          let fit = fits.fit f.0 f.1 f.2 in
+          let count = fits.count in
+          let within = slice_get_within desks f.0 f.1 f.2 in
+          let r = fit.round in
+          let q = f.4 in
+          lt-leb (slice_index s.rounds i - c) least far
+          ∙ sym (within_none c i f.0 (omega (arith, count, within)) (sym (busy_is sys s counters f.0 f.1 fit) ∙ f.3) (omega (arith, r, q, far)))
+      go (inr near) =
+          le-leb (slice_index s.rounds i - c) least near
+          ∙ sym (within_all c i (λ j l b. let d = desk_busy j l b in let f = k.below j d.0 d.1 d.2 in let e = same_Some least f.0 f.1 in let m = f.2 in let r = d.3 in omega (arith, near, e, m, r)))
+
+  near_enough_is : (policy : Policy) (least : Option ℕ) (i : ℕ) → IsLeastRound desks least → is_near_enough policy least (slice_index s.rounds i) ≡ is_fresh_enough policy s.workers s.rounds i
+  near_enough_is Bsp least i k = near_is 0 least i k
+  near_enough_is Ap least i k = refl
+  near_enough_is (Ssp c) least i k = near_is c least i k
+  near_enough_is (Aap c l) least i k = near_is c least i k
+
+  -- ---- a row of the table for a worker is what its desk says
+
+  at_desks : (row : ℕ → Bool) (test : ℕ → Desk → Bool) → ((i : ℕ) (d : Desk) → slice_get desks i ≡ Some d → test i d ≡ (is_worker s i && row i)) → (i : ℕ) → (is_worker s i && row i) ≡ holds_at test desks i
+  at_desks row test h i = elim (desk_there desks i) [
+    | inl k ↦ sym (h i k.0 k.1) ∙ sym (holds_in test desks i k.0 k.1)
+    | inr l ↦ let c = fits.count in ap (λ b. b && row i) (le-ltb i (worker_count s) (omega (arith, l, c))) ∙ sym (holds_past test desks i l)
   ]
 
-  admitted_is : (b : Bool) → (not (has_ended s.past) && b) ≡ b
-  admitted_is b = ap (λ q. not q && b) p.going
+  in_range : (i : ℕ) (d : Desk) (row : Bool) → slice_get desks i ≡ Some d → row ≡ (is_worker s i && row)
+  in_range i d row g = let c = fits.count in let l = slice_get_within desks i d g in sym (ap (λ b. b && row) (lt-ltb i (worker_count s) (omega (arith, c, l))))
 
-  pub takes_at : (lane : ℕ) → lane < sys.settings.lanes → has_work_out s lane ≡ false → (i : ℕ) → is_admitted sys s (Take i lane) ≡ holds_at may_take_at desks i
-  takes_at lane l w i =
-      admitted_is (is_worker s i && may_take sys s i lane)
-      ∙ at_desks (λ i. may_take sys s i lane) may_take_at (λ i d g. desk_takes sys s counters i d (fits.fit i d g) ∙ sym (take_row sys s p i lane l w)) i
+  module _ (p : IsPlain sys s) (going : has_ended s.past ≡ false) (sight : Sight) (policy : sight.policy ≡ sys.settings.policy) (clock : sight.clock ≡ length s.past) (least : IsLeastRound desks sight.least) where
+    admitted_is : (b : Bool) → (not (has_ended s.past) && b) ≡ b
+    admitted_is b = ap (λ q. not q && b) going
 
-  pub stretches_at : (i : ℕ) → is_admitted sys s (Stretch i (stretch_from sys s i)) ≡ holds_at may_stretch_at desks i
-  stretches_at i =
-      admitted_is (is_worker s i && may_stretch sys s i (stretch_from sys s i))
-      ∙ at_desks (λ i. may_stretch sys s i (stretch_from sys s i)) may_stretch_at (λ i d g. desk_stretches sys s counters i d (fits.fit i d g) ∙ sym (stretch_row sys s p i)) i
+    desk_takes : (lane : ℕ) → lane < sys.settings.lanes → has_work_out s lane ≡ false → (i : ℕ) (d : Desk) → slice_get desks i ≡ Some d → admits kind.Take sight probe i d ≡ may_take sys s i lane
+    desk_takes lane l w i d g =
+        let f = fits.fit i d g in
+        let worker = worker_at s.workers i in
+        ap (λ x. (x || ((rests_at d && has_mail d) && is_over sight d)) && is_near_enough sight.policy sight.least d.round) (fresh_is sys s counters i d f)
+        ∙ (ap (λ x. (is_fresh worker || (x && is_over sight d)) && is_near_enough sight.policy sight.least d.round) (rests_with sys s counters i d f)
+        ∙ (ap (λ x. (is_fresh worker || (rests_with_mail s i && x)) && is_near_enough sight.policy sight.least d.round) (over_is sys s counters i d f sight policy clock)
+        ∙ (ap (λ x. (is_fresh worker || (rests_with_mail s i && delay_is_over sys.settings.policy s.workers s.past i)) && x)
+        (ap (λ r. is_near_enough sight.policy sight.least r) f.round ∙ (near_enough_is sight.policy sight.least i least ∙ ap (λ q. is_fresh_enough q s.workers s.rounds i) policy))
+        ∙ sym (take_parts (nat_lt lane sys.settings.lanes) (not (has_work_out s lane)) (is_fresh worker || (rests_with_mail s i && delay_is_over sys.settings.policy s.workers s.past i)) (is_fresh_enough sys.settings.policy s.workers s.rounds i)
+        (not (snapshot_is_due sys s)) (not (is_unmarked s i && tagged_batch_waits s i)) (lt-ltb lane sys.settings.lanes l) (not_from_false (has_work_out s lane) w) (not_due sys s p) (not_unmarked sys s p i)))))
 
-  turn_is : (test : ℕ → Bool) → first_where test (in_turn (worker_count s) s.past) ≡ first_where test (range_with_len turn (length desks - turn) ++ numbers_below turn)
-  turn_is test = ap (λ n. first_where test (range_with_len (first_in_turn (worker_count s) s.past) (n - first_in_turn (worker_count s) s.past) ++ numbers_below (first_in_turn (worker_count s) s.past))) (sym fits.count)
-      ∙ ap (λ t. first_where test (range_with_len t (length desks - t) ++ numbers_below t)) (sym fits.is_turn)
+    desk_stretches : (extra i : ℕ) (d : Desk) → extra ≤ 64 → slice_get desks i ≡ Some d → admits kind.Stretch sight probe i d ≡ may_stretch sys s i (stretch_from sys s i + extra)
+    desk_stretches extra i d small g =
+        let f = fits.fit i d g in
+        let t = stretch_from sys s i + extra in
+        ap (λ x. x && not (is_some d.delay)) (rests_with sys s counters i d f)
+        ∙ (ap (λ x. rests_with_mail s i && not x) (stretched_is sys s counters i d f)
+        ∙ sym (stretch_parts (rests_with_mail s i) (not (is_stretched s i)) (nat_le (stretch_from sys s i) t) (nat_le t (stretch_from sys s i + 64)) (le-leb (stretch_from sys s i) t (omega arith)) (le-leb t (stretch_from sys s i + 64) (omega (arith, small)))))
 
-  first_take : (lane : ℕ) → lane < sys.settings.lanes → has_work_out s lane ≡ false → first_admitted sys s (map (λ i. Take i lane) (in_turn (worker_count s) s.past)) ≡ mapped_option (λ i. Take i lane) (first_desk may_take_at desks turn)
-  first_take lane l w = first_of_kind sys s (λ i. Take i lane) (holds_at may_take_at desks) (takes_at lane l w) (in_turn (worker_count s) s.past) ∙ ap (mapped_option (λ i. Take i lane)) (turn_is (holds_at may_take_at desks))
+    desk_holds : (i : ℕ) (d : Desk) → slice_get desks i ≡ Some d → admits kind.Hold sight probe i d ≡ may_hold sys s i
+    desk_holds i d g =
+        let f = fits.fit i d g in
+        ap (λ x. x && not (is_over sight d)) (stretched_is sys s counters i d f) ∙ ap (λ x. is_stretched s i && not x) (over_is sys s counters i d f sight policy clock)
 
-  first_stretch : first_admitted sys s (map (λ i. Stretch i (stretch_from sys s i)) (in_turn (worker_count s) s.past)) ≡ mapped_option (λ i. Stretch i (stretch_from sys s i)) (first_desk may_stretch_at desks turn)
-  first_stretch = first_of_kind sys s (λ i. Stretch i (stretch_from sys s i)) (holds_at may_stretch_at desks) stretches_at (in_turn (worker_count s) s.past) ∙ ap (mapped_option (λ i. Stretch i (stretch_from sys s i))) (turn_is (holds_at may_stretch_at desks))
+    desk_flags : (i : ℕ) (d : Desk) → slice_get desks i ≡ Some d → admits kind.Flag sight probe i d ≡ row_admits sys s (Flag i)
+    desk_flags i d g =
+        ap (λ q. probe_may_flag i q && (rests_at d && not (has_mail d))) fits.is_probe
+        ∙ (ap (λ x. probe_may_flag i (probe_at s) && x) (rests_without sys s counters i d (fits.fit i d g)) ∙ sym ((meets_the_table sys s).flag i))
 
-  pub chooses_take : (lane i : ℕ) → lane < sys.settings.lanes → has_work_out s lane ≡ false → first_desk may_take_at desks turn ≡ Some i → choice_of sys s lane ≡ Some (Take i lane)
-  chooses_take lane i l w h = first-append_some sys s (map (λ i. Take i lane) (in_turn (worker_count s) s.past)) (map (λ i. Stretch i (stretch_from sys s i)) (in_turn (worker_count s) s.past) ++ []) (Take i lane)
-      (first_take lane l w ∙ ap (mapped_option (λ i. Take i lane)) h)
+    desk_acks : (i : ℕ) (d : Desk) → slice_get desks i ≡ Some d → admits kind.Ack sight probe i d ≡ row_admits sys s (Ack i)
+    desk_acks i d g =
+        ap (λ q. (may_answer i q && (rests_at d && not (has_mail d))) && not (took_since_ask i q)) fits.is_probe
+        ∙ (ap (λ x. (may_answer i (probe_at s) && x) && not (took_since_ask i (probe_at s))) (rests_without sys s counters i d (fits.fit i d g)) ∙ sym ((meets_the_table sys s).ack i))
 
-  after_takes : (lane : ℕ) → lane < sys.settings.lanes → has_work_out s lane ≡ false → first_desk may_take_at desks turn ≡ None → choice_of sys s lane ≡ first_admitted sys s (map (λ i. Stretch i (stretch_from sys s i)) (in_turn (worker_count s) s.past) ++ [])
-  after_takes lane l w h = first-append_none sys s (map (λ i. Take i lane) (in_turn (worker_count s) s.past)) (map (λ i. Stretch i (stretch_from sys s i)) (in_turn (worker_count s) s.past) ++ []) (first_take lane l w ∙ ap (mapped_option (λ i. Take i lane)) h)
+    desk_nacks : (i : ℕ) (d : Desk) → slice_get desks i ≡ Some d → admits kind.Nack sight probe i d ≡ row_admits sys s (Nack i)
+    desk_nacks i d g =
+        let f = fits.fit i d g in
+        ap (λ q. (may_answer i q && rests_at d) && (has_mail d || took_since_ask i q)) fits.is_probe
+        ∙ (ap (λ x. (may_answer i (probe_at s) && x) && (has_mail d || took_since_ask i (probe_at s))) (rests_is sys s counters i d f)
+        ∙ (ap (λ x. (may_answer i (probe_at s) && rests (worker_at s.workers i)) && (x || took_since_ask i (probe_at s))) (mail_is sys s counters i d f) ∙ sym ((meets_the_table sys s).nack i)))
 
-  pub chooses_stretch : (lane i : ℕ) → lane < sys.settings.lanes → has_work_out s lane ≡ false → first_desk may_take_at desks turn ≡ None → first_desk may_stretch_at desks turn ≡ Some i → choice_of sys s lane ≡ Some (Stretch i 0)
-  chooses_stretch lane i l w h k = after_takes lane l w h ∙ (first-append_some sys s (map (λ i. Stretch i (stretch_from sys s i)) (in_turn (worker_count s) s.past)) [] (Stretch i (stretch_from sys s i)) (first_stretch ∙ ap (mapped_option (λ i. Stretch i (stretch_from sys s i))) k)
-      ∙ ap (λ n. Some (Stretch i n)) (no_stretch sys s p i))
+    never_marks : (i : ℕ) → is_admitted sys s (Mark i) ≡ false
+    never_marks i =
+        admitted_is (is_worker s i && may_mark s i) ∙ (ap (λ b. is_worker s i && (b && not (is_running (worker_at s.workers i)))) (none_unmarked sys s p i) ∙ never (is_worker s i))
+      where
+        never : (b : Bool) → (b && false) ≡ false
+        never true = refl
+        never false = refl
 
-  pub chooses_none : (lane : ℕ) → lane < sys.settings.lanes → has_work_out s lane ≡ false → first_desk may_take_at desks turn ≡ None → first_desk may_stretch_at desks turn ≡ None → choice_of sys s lane ≡ None
-  chooses_none lane l w h k = after_takes lane l w h ∙ first-append_none sys s (map (λ i. Stretch i (stretch_from sys s i)) (in_turn (worker_count s) s.past)) [] (first_stretch ∙ ap (mapped_option (λ i. Stretch i (stretch_from sys s i))) k)
+    module _ (lane : ℕ) (below : lane < sys.settings.lanes) (free : has_work_out s lane ≡ false) (extra : ℕ → ℕ) (small : (i : ℕ) → extra i ≤ 64) where
+      -- an event of a worker is admitted exactly where its desk says so
+      pub kind_at : (k : Kind) (i : ℕ) → is_admitted sys s (event_of sys s lane extra k i) ≡ holds_at (admits k sight probe) desks i
+      kind_at kind.Take i =
+          admitted_is (is_worker s i && may_take sys s i lane)
+          ∙ at_desks (λ i. may_take sys s i lane) (admits kind.Take sight probe) (λ i d g. desk_takes lane below free i d g ∙ in_range i d (may_take sys s i lane) g) i
+      kind_at kind.Stretch i =
+          admitted_is (is_worker s i && may_stretch sys s i (stretch_from sys s i + extra i))
+          ∙ at_desks (λ i. may_stretch sys s i (stretch_from sys s i + extra i)) (admits kind.Stretch sight probe) (λ i d g. desk_stretches (extra i) i d (small i) g ∙ in_range i d (may_stretch sys s i (stretch_from sys s i + extra i)) g) i
+      kind_at kind.Ack i = admitted_is (is_worker s i && may_ack s i) ∙ at_desks (λ i. may_ack s i) (admits kind.Ack sight probe) desk_acks i
+      kind_at kind.Nack i = admitted_is (is_worker s i && may_nack s i) ∙ at_desks (λ i. may_nack s i) (admits kind.Nack sight probe) desk_nacks i
+      kind_at kind.Flag i = admitted_is (is_worker s i && may_flag s i) ∙ at_desks (λ i. may_flag s i) (admits kind.Flag sight probe) desk_flags i
+      kind_at kind.Hold i =
+          admitted_is (is_worker s i && may_hold sys s i) ∙ at_desks (λ i. may_hold sys s i) (admits kind.Hold sight probe) (λ i d g. desk_holds i d g ∙ in_range i d (may_hold sys s i) g) i
 
--- what is found passes the test
-pub found_holds : (test : ℕ → Bool) (is : List ℕ) (i : ℕ) → first_where test is ≡ Some i → test i ≡ true
-found_holds test [] i h = absurd (false≢true (ap (λ (o : Option ℕ). elim o as (λ _. Bool) [ None ↦ false | Some y ↦ true ]) h))
-found_holds test (j ∷ is) i h = go (test j) refl h (found_holds test is i)
-  where
-    go : (b : Bool) → test j ≡ b → (if b then Some j else first_where test is) ≡ Some i → (first_where test is ≡ Some i → test i ≡ true) → test i ≡ true
-    go true e h again = subst (λ k. test k ≡ true) (ap (λ (o : Option ℕ). elim o as (λ _. ℕ) [ None ↦ j | Some y ↦ y ]) h) e
-    go false e h again = again h
+      turn_is : (test : ℕ → Bool) → first_where test (in_turn (worker_count s) s.past) ≡ first_where test (range_with_len turn (length desks - turn) ++ numbers_below turn)
+      turn_is test =
+          ap (λ n. first_where test (range_with_len (first_in_turn (worker_count s) s.past) (n - first_in_turn (worker_count s) s.past) ++ numbers_below (first_in_turn (worker_count s) s.past))) (sym fits.count)
+          ∙ ap (λ t. first_where test (range_with_len t (length desks - t) ++ numbers_below t)) (sym fits.is_turn)
+
+      -- the events of these kinds
+      abbrev events_of : List Kind → List Event
+      events_of [] = []
+      events_of (k ∷ ks) = map (event_of sys s lane extra k) (in_turn (worker_count s) s.past) ++ events_of ks
+
+      first_is : (k : Kind) → first_admitted sys s (map (event_of sys s lane extra k) (in_turn (worker_count s) s.past)) ≡ mapped_option (event_of sys s lane extra k) (first_desk (admits k sight probe) desks turn)
+      first_is k =
+          first_of_kind sys s (event_of sys s lane extra k) (holds_at (admits k sight probe) desks) (kind_at k) (in_turn (worker_count s) s.past)
+          ∙ ap (mapped_option (event_of sys s lane extra k)) (turn_is (holds_at (admits k sight probe) desks))
+
+      found_is : (ks : List Kind) → first_admitted sys s (events_of ks) ≡ event_if sys s lane extra (first_of_kinds sight probe desks turn ks)
+      found_is [] = refl
+      found_is (k ∷ ks) = go (first_desk (admits k sight probe) desks turn) (first_is k) (found_is ks)
+        where
+          go : (o : Option ℕ) → first_admitted sys s (map (event_of sys s lane extra k) (in_turn (worker_count s) s.past)) ≡ mapped_option (event_of sys s lane extra k) o →
+              first_admitted sys s (events_of ks) ≡ event_if sys s lane extra (first_of_kinds sight probe desks turn ks) →
+              first_admitted sys s (map (event_of sys s lane extra k) (in_turn (worker_count s) s.past) ++ events_of ks) ≡ event_if sys s lane extra (found_or k o (first_of_kinds sight probe desks turn ks))
+          go None h again = first-append_none sys s (map (event_of sys s lane extra k) (in_turn (worker_count s) s.past)) (events_of ks) h ∙ again
+          go (Some i) h again = first-append_some sys s (map (event_of sys s lane extra k) (in_turn (worker_count s) s.past)) (events_of ks) (event_of sys s lane extra k i) h
+
+      choice_is : next_choice sys s lane extra ≡ event_if sys s lane extra (first_of_kinds sight probe desks turn kinds)
+      choice_is =
+          first-append_none sys s (map (λ i. Mark i) (in_turn (worker_count s) s.past)) (events_of kinds) (none_of_kind sys s (λ i. Mark i) never_marks (in_turn (worker_count s) s.past))
+          ∙ found_is kinds
+
+    -- what the hub finds is the lane's choice, whatever the pacers add
+    pub is_choice : (lane : ℕ) → lane < sys.settings.lanes → has_work_out s lane ≡ false → IsChoice sys s lane (first_of_kinds sight probe desks turn kinds)
+    is_choice lane below free extra small = choice_is lane below free extra small

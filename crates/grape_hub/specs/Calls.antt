@@ -1,21 +1,26 @@
 -- What the calls of a hub answer and leave.
-use Rattle.std.specs.Prelude.{◌≡◌, ℕ, ◌<◌, Bool, false, true, List, [], ◌∷◌, ◌++◌, Some, None, ⊤, length, take, reverse}
+use Rattle.std.specs.Prelude.{◌≡◌, ℕ, ◌+◌, ◌*◌, ◌≤◌, Bool, false, true, MatchBool, List, [], ◌∷◌, ◌++◌, Some, None, ⊤, length, take, reverse}
 use Rattle.std.specs.List.{AllZip}
+use Rattle.graph_core.specs.declared.job.Job.{Job}
 use Rattle.graph_core.specs.Fragments.{fragment_of}
 use Rattle.graph_core.specs.Queries.{equations_of}
 use Rattle.grape_event.specs.declared.event.Event.{Event}
-use Rattle.grape_event.specs.declared.event.Event.TheVariants.{Take, Stretch}
+use Rattle.grape_event.specs.declared.event.Event.TheVariants.{Take, Stretch, Hold, Flag, Ask, Ack, Nack, End}
 use Rattle.grape_event.specs.Events.{is_take}
 use Rattle.pie_core.specs.Locals.{LocalValues}
 use Rattle.pie_core.specs.Solutions.{IsReadyFor, OwnEquationsHold}
 use Rattle.base_machine.specs.Machine.{worker_at, is_fresh, hand_of, values_given}
 use Rattle.legal_journal.specs.Past.{has_ended}
+use Rattle.legal_journal.specs.Legal.{is_admitted, stretch_from}
+use Rattle.legal_journal.specs.Choices.{duty_choice}
 use Rattle.grape_hub.specs.declared.work.Work.{Work}
 use Rattle.grape_hub.specs.declared.work.Next.{Next}
 use Rattle.grape_hub.specs.declared.work.Next.TheVariants.{Took, Did, Idle, Ended, NoMemory}
+use Rattle.grape_hub.specs.declared.work.Duty.{Duty}
+use Rattle.grape_hub.specs.declared.work.Duty.TheVariants as duty
 use Rattle.grape_hub.specs.HubValues.{HubValues}
 use Rattle.grape_hub.specs.States.{machine, state_of, workers_of, piece_of_worker, IsOut}
-use Rattle.grape_hub.specs.Choice.{choice_of}
+use Rattle.grape_hub.specs.Choices.{MayChoose}
 use Rattle.grape_hub.specs.Desks.{HasSizes}
 
 -- an event was appended, and nothing else is changed but how much room is spare
@@ -34,17 +39,35 @@ pub record IsWork (h : HubValues) (lane : ℕ) (fresh : Bool) (work : Work) : Ty
   pub before : work.local.before ≡ take (length (piece_of_worker h work.worker).owned) (worker_at (workers_of h) work.worker).values
   pub sizes : HasSizes (piece_of_worker h work.worker) h.counters work.local.before work.local.counters work.hand.values
 
+-- a hub that has done nothing yet
+abbrev pub Begins : Job → ℕ → HubValues → Type 0
+Begins job counters h = (h.job ≡ job) × (h.counters ≡ counters) × (h.journal.events ≡ [])
+
 -- What a lane's call of next answers, and leaves: the first admitted event in the order of choice, and its Work where it is a Take.
 abbrev pub Chooses : HubValues → ℕ → Next → HubValues → Type 0
 Chooses old lane (Took work) new =
-    (choice_of (machine old) (state_of old) lane ≡ Some (Take work.worker lane)) × Appended old (Take work.worker lane) new
+    MayChoose (machine old) (state_of old) lane (Some (Take work.worker lane)) × Appended old (Take work.worker lane) new
     × IsWork new lane (is_fresh (worker_at (workers_of old) work.worker)) work
-Chooses old lane (Did e) new = (choice_of (machine old) (state_of old) lane ≡ Some e) × (is_take e ≡ false) × Appended old e new
-Chooses old lane Idle new = (choice_of (machine old) (state_of old) lane ≡ None) × (new ≡ old) × (has_ended (reverse old.journal.events) ≡ false)
+Chooses old lane (Did e) new = MayChoose (machine old) (state_of old) lane (Some e) × (is_take e ≡ false) × Appended old e new
+Chooses old lane Idle new = MayChoose (machine old) (state_of old) lane None × (new ≡ old) × (has_ended (reverse old.journal.events) ≡ false)
 Chooses old lane Ended new = (new ≡ old) × (has_ended (reverse old.journal.events) ≡ true)
 Chooses old lane NoMemory new = Unchanged old new
 
--- the same for the Take of this worker, and for its Stretch
+-- What a call of duty answers, and leaves: the first admitted of Seal, End, Begin and Ask.
+abbrev pub ChoosesDuty : HubValues → Duty → HubValues → Type 0
+ChoosesDuty old (duty.Did e) new = (duty_choice (machine old) (state_of old) ≡ Some e) × Appended old e new
+ChoosesDuty old (duty.Sealed epoch) new = ⊥
+ChoosesDuty old duty.Nothing new = (duty_choice (machine old) (state_of old) ≡ None) × (new ≡ old) × (has_ended (reverse old.journal.events) ≡ false)
+ChoosesDuty old duty.Ended new = (new ≡ old) × (has_ended (reverse old.journal.events) ≡ true)
+ChoosesDuty old duty.NoMemory new = Unchanged old new
+
+-- an event was appended, but for a journal that had ended, where nothing has changed
+abbrev pub AppendedUnlessEnded : HubValues → Event → HubValues → Type 0
+AppendedUnlessEnded old e new = MatchBool (has_ended (reverse old.journal.events)) (new ≡ old) (Appended old e new)
+
+-- ---- parts of next
+
+-- the Take of this worker
 abbrev pub TakesWorker : HubValues → ℕ → ℕ → Next → HubValues → Type 0
 TakesWorker old worker lane (Took work) new = (work.worker ≡ worker) × Appended old (Take worker lane) new × IsWork new lane (is_fresh (worker_at (workers_of old) worker)) work
 TakesWorker old worker lane (Did e) new = ⊥
@@ -52,12 +75,34 @@ TakesWorker old worker lane Idle new = ⊥
 TakesWorker old worker lane Ended new = ⊥
 TakesWorker old worker lane NoMemory new = Unchanged old new
 
+-- a Stretch of this worker is admitted, of the least turns and up to 64 more
+abbrev pub MayStretch : HubValues → ℕ → Type 0
+MayStretch h worker = (extra : ℕ) → extra ≤ 64 → is_admitted (machine h) (state_of h) (Stretch worker (stretch_from (machine h) (state_of h) worker + extra)) ≡ true
+
+-- the Stretch of this worker, of the least turns and up to 64 more
 abbrev pub StretchesWorker : HubValues → ℕ → Next → HubValues → Type 0
+StretchesWorker old worker (Did e) new = (extra : ℕ) × (extra ≤ 64) × (e ≡ Stretch worker (stretch_from (machine old) (state_of old) worker + extra)) × Appended old e new
+StretchesWorker old worker NoMemory new = Unchanged old new
 StretchesWorker old worker (Took work) new = ⊥
-StretchesWorker old worker (Did e) new = (e ≡ Stretch worker 0) × Appended old e new
 StretchesWorker old worker Idle new = ⊥
 StretchesWorker old worker Ended new = ⊥
-StretchesWorker old worker NoMemory new = Unchanged old new
+
+-- the events of workers and coordinator that change no worker
+abbrev pub IsNote : Event → Type 0
+IsNote (Hold i) = ⊤
+IsNote (Flag i) = ⊤
+IsNote Ask = ⊤
+IsNote (Ack i) = ⊤
+IsNote (Nack i) = ⊤
+IsNote End = ⊤
+IsNote _ = ⊥
+
+abbrev pub NotesEvent : HubValues → Event → Next → HubValues → Type 0
+NotesEvent old event (Did e) new = (e ≡ event) × Appended old event new
+NotesEvent old event NoMemory new = Unchanged old new
+NotesEvent old event (Took work) new = ⊥
+NotesEvent old event Idle new = ⊥
+NotesEvent old event Ended new = ⊥
 
 -- A Work may be evaluated: its values lie below the starts and, unless it is fresh, below their own equations.
 pub record IsReady (h : HubValues) (work : Work) : Type 0 where
@@ -82,3 +127,7 @@ pub record MayGive (h : HubValues) (lane : ℕ) (work : Work) : Type 0 where
 -- each Local has its worker's values
 abbrev pub HaveValues : HubValues → List LocalValues → Type 0
 HaveValues h locals = AllZip (λ local w. local.values ≡ w.values) locals (workers_of h)
+
+-- each Local has the sizes of its worker's fragment, and of the program's counters
+abbrev pub HaveSizes : HubValues → List LocalValues → Type 0
+HaveSizes h locals = AllZip (λ local piece. (length local.before ≡ length piece.owned) × (length local.counters ≡ length piece.owned * h.counters)) locals (machine h).pieces

@@ -1,9 +1,10 @@
 pub mod HubValues
 pub mod States
-pub mod Choice
+pub mod Choices
 pub mod Posting
 pub mod Desks
 pub mod Calls
 pub mod Openings
 pub mod Theorems
 pub mod Kinds
+pub mod Hearing

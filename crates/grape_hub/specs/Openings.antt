@@ -1,5 +1,5 @@
 -- The tables of a hub at the beginning.
-use Rattle.std.specs.Prelude.{◌≡◌, ℕ, ◌<◌, ◌^◌, true, false, ◌++◌, length}
+use Rattle.std.specs.Prelude.{◌≡◌, ℕ, ◌<◌, ◌^◌, true, [], ◌++◌, None, length}
 use Rattle.value_order.specs.declared.order.Order.{Order}
 use Rattle.graph_core.specs.declared.job.Job.{Job}
 use Rattle.graph_core.specs.Parts.{FragmentLists}
@@ -26,6 +26,8 @@ abbrev pub new_desk : Job → Order → ℕ → FragmentLists → Desk
 new_desk job order counters part =
     record {
       seat = Here true (loaded (new_local (length part.owned) (length part.mirrors) counters) (starts_of (equations_of job) (part.owned ++ part.mirrors))) (new_hand order (length part.mirrors));
-      stretched = false;
+      delay = None;
+      round = 0;
+      pulse = [];
       buffer = new_buffer order (length part.mirrors);
     }

@@ -1,30 +1,36 @@
--- What a Give leaves in the buffers.
+-- What a Give leaves at the desks.
 use Rattle.std.specs.Prelude.{◌≡◌, ◌≢◌, ℕ, ◌+◌, ◌<◌, ◌^◌, ◌-◌, Bool, true, false, not, ◌==◌, ◌||◌, List, [], ◌∷◌, map, filter, length, All, Some, slice_get, slice_index, slice_index_or}
 use Rattle.value_order.specs.declared.TheConstants.{NOTHING}
 use Rattle.graph_core.specs.declared.fragment.Route.{Route}
 use Rattle.message_buffer.specs.BufferValues.{BufferValues}
-use Rattle.message_buffer.specs.Buffers.{with_batch, with_post, batches_in}
+use Rattle.message_buffer.specs.Buffers.{with_post, batches_in}
 use Rattle.base_machine.specs.Machine.{Post, posts_to, is_empty}
+use Rattle.delay_stretch.specs.Arrivals.{IsNotBelowLast}
 use Rattle.grape_hub.specs.declared.desk.Desk.{Desk}
+use Rattle.grape_hub.specs.declared.sender.Sender.{Sender}
+use Rattle.grape_hub.specs.Desks.{with_arrival}
 
 -- all of these posts in the last batch
 abbrev pub with_posts : List Post → BufferValues → BufferValues
 with_posts [] b = b
 with_posts (p ∷ posts) b = with_posts posts (with_post false p.mirror p.value b)
 
+-- posts in the last batch of a desk
+abbrev pub with_more : List Post → Desk → Desk
+with_more posts d = record { seat = d.seat; delay = d.delay; round = d.round; pulse = d.pulse; buffer = with_posts posts d.buffer }
+
 -- a batch of these posts; no posts are no batch
-abbrev pub with_batch_of : List Post → BufferValues → BufferValues
-with_batch_of [] b = b
-with_batch_of (p ∷ posts) b = with_posts (p ∷ posts) (with_batch false b)
+abbrev pub with_batch_of : Sender → List Post → Desk → Desk
+with_batch_of sender [] d = d
+with_batch_of sender (p ∷ posts) d = with_more (p ∷ posts) (with_arrival sender.place sender.round d)
 
 -- The desks, the first of which has this number, after the owned values that changed from old to new were sent along their routes.
-abbrev pub posted_from : ℕ → List ℕ → List ℕ → List (List Route) → List Desk → List Desk
-posted_from k old new routes [] = []
-posted_from k old new routes (d ∷ desks) =
-    record d { buffer = with_batch_of (posts_to k old new routes) d.buffer } ∷ posted_from (k + 1) old new routes desks
+abbrev pub posted_from : Sender → ℕ → List ℕ → List ℕ → List (List Route) → List Desk → List Desk
+posted_from sender k old new routes [] = []
+posted_from sender k old new routes (d ∷ desks) = with_batch_of sender (posts_to k old new routes) d ∷ posted_from sender (k + 1) old new routes desks
 
-abbrev pub posted : List ℕ → List ℕ → List (List Route) → List Desk → List Desk
-posted old new routes desks = posted_from 0 old new routes desks
+abbrev pub posted : Sender → List ℕ → List ℕ → List (List Route) → List Desk → List Desk
+posted sender old new routes desks = posted_from sender 0 old new routes desks
 
 -- how many mirrors each desk has
 abbrev pub mirror_counts : List Desk → List ℕ
@@ -38,25 +44,27 @@ LeadToDesks routes desks = All (λ row. All (λ r. r.mirror < slice_index (mirro
 abbrev pub ChangesAreValues : List ℕ → List ℕ → Type 0
 ChangesAreValues old new = (p : ℕ) → p < length old → slice_index old p ≢ slice_index new p → slice_index new p ≢ NOTHING
 
--- each desk can count one batch more
-abbrev pub HaveRoom : List Desk → Type 0
-HaveRoom desks = All (λ d. batches_in d.buffer < 2 ^ 64 - 1) desks
+-- A desk can get a batch of the Give at this place: it can count one batch more, and nothing arrived later.
+abbrev pub CanReceive : ℕ → Desk → Type 0
+CanReceive place d = (batches_in d.buffer < 2 ^ 64 - 1) × IsNotBelowLast place d.pulse
+
+abbrev pub AllCanReceive : ℕ → List Desk → Type 0
+AllCanReceive place desks = All (CanReceive place) desks
 
 -- ---- while the posts are sent
 
 -- posts for a worker, in the batch that was begun for it, or in a new one
-abbrev pub with_mail : Bool → List Post → BufferValues → BufferValues
-with_mail true posts b = with_posts posts b
-with_mail false posts b = with_batch_of posts b
+abbrev pub with_mail : Sender → Bool → List Post → Desk → Desk
+with_mail sender true posts d = with_more posts d
+with_mail sender false posts d = with_batch_of sender posts d
 
 -- the desks, the first of which has this number, after each got its posts, where a batch was begun for some
-abbrev pub mailed_from : ℕ → List Bool → (ℕ → List Post) → List Desk → List Desk
-mailed_from k begun posts [] = []
-mailed_from k begun posts (d ∷ desks) =
-    record d { buffer = with_mail (slice_index_or begun k false) (posts k) d.buffer } ∷ mailed_from (k + 1) begun posts desks
+abbrev pub mailed_from : Sender → ℕ → List Bool → (ℕ → List Post) → List Desk → List Desk
+mailed_from sender k begun posts [] = []
+mailed_from sender k begun posts (d ∷ desks) = with_mail sender (slice_index_or begun k false) (posts k) d ∷ mailed_from sender (k + 1) begun posts desks
 
-abbrev pub mailed : List Bool → (ℕ → List Post) → List Desk → List Desk
-mailed begun posts desks = mailed_from 0 begun posts desks
+abbrev pub mailed : Sender → List Bool → (ℕ → List Post) → List Desk → List Desk
+mailed sender begun posts desks = mailed_from sender 0 begun posts desks
 
 -- a batch was begun for those for whom one was begun before, and for those that got posts since
 abbrev pub AreBegun : List Bool → (ℕ → List Post) → List Bool → Type 0
@@ -66,6 +74,6 @@ AreBegun before posts begun = (k : ℕ) → k < 64 → slice_index_or begun k fa
 abbrev pub posts_along : ℕ → ℕ → List Route → List Post
 posts_along k value row = map (λ t. record { mirror = t.mirror; value = value }) (filter (λ t. t.fragment == k) row)
 
--- a desk for which no batch was begun can count one more
-abbrev pub CanBegin : List Bool → List Desk → Type 0
-CanBegin begun desks = (k : ℕ) (d : Desk) → slice_get desks k ≡ Some d → slice_index_or begun k false ≡ false → batches_in d.buffer < 2 ^ 64 - 1
+-- a desk for which no batch was begun can get one
+abbrev pub CanBegin : ℕ → List Bool → List Desk → Type 0
+CanBegin place begun desks = (k : ℕ) (d : Desk) → slice_get desks k ≡ Some d → slice_index_or begun k false ≡ false → CanReceive place d

@@ -1,14 +1,13 @@
 -- The state that a hub's journal leads to, and what is out with the lanes.
-use Rattle.std.specs.Prelude.{◌≡◌, ℕ, ◌+◌, ◌<◌, ◌≤◌, Bool, true, false, ◌==◌, if◌then◌else◌, IsTrue, List, [], ◌∷◌, Option, Some, None, length, count_by}
+use Rattle.std.specs.Prelude.{◌≡◌, ℕ, ◌+◌, ◌<◌, ◌≤◌, Bool, true, false, ◌==◌, if◌then◌else◌, List, [], ◌∷◌, Option, Some, None, length, reverse, count_by}
 use Rattle.std.specs.List.{AllByRecursion}
-use Rattle.graph_core.specs.declared.settings.Policy.TheVariants.{Ap}
 use Rattle.graph_core.specs.Graphs.{IsJob}
 use Rattle.graph_core.specs.Fragments.{Piece, piece_at}
 use Rattle.grape_event.specs.declared.event.Event.{Event}
-use Rattle.grape_event.specs.declared.event.Event.TheVariants.{Take, Give, Stretch}
+use Rattle.grape_event.specs.declared.event.Event.TheVariants.{Take, Begin, Mark, Seal, Kept}
 use Rattle.token_cut.specs.Parts.{SnapshotParts}
-use Rattle.base_machine.specs.Machine.{System, system_of, BaseState, Worker, worker_at, is_running, fresh_snapshot}
-use Rattle.legal_journal.specs.Past.{lane_of}
+use Rattle.base_machine.specs.Machine.{System, system_of, BaseState, worker_at, is_running, fresh_snapshot}
+use Rattle.legal_journal.specs.Past.{lane_of, has_ended}
 use Rattle.legal_journal.specs.Legal.{State, state_at_end, worker_count, IsLegal}
 use Rattle.grape_hub.specs.HubValues.{HubValues}
 
@@ -50,18 +49,18 @@ works_out ws = count_by is_running ws
 
 -- ---- what every hub keeps
 
--- the events that a hub appends so far: its Stretches have no turns
+-- the events that a hub appends so far: all but those of snapshots
 abbrev pub is_built : Event → Bool
-is_built (Take i k) = true
-is_built (Give i) = true
-is_built (Stretch i turns) = turns == 0
-is_built _ = false
+is_built (Begin e) = false
+is_built (Mark i) = false
+is_built (Seal e) = false
+is_built (Kept e) = false
+is_built _ = true
 
--- The job lies within the limits, its policy is AP and it asks for no snapshots. The journal is legal from the beginning, and has room for a Give of each worker that is out.
+-- The job lies within the limits, and it asks for no snapshots. The journal is legal from the beginning, and until it has ended it has room for a Give of each worker that is out, and for a Stop.
 pub record IsHub (h : HubValues) : Type 0 where
   pub job : IsJob h.job
-  pub policy : h.job.settings.policy ≡ Ap
   pub snapshot : h.job.settings.snapshot ≡ 0
   pub legal : IsLegal (machine h) (beginning h) h.journal.events
   pub built : AllByRecursion (λ e. is_built e ≡ true) h.journal.events
-  pub room : works_out (workers_of h) ≤ h.journal.spare
+  pub room : has_ended (reverse h.journal.events) ≡ false → works_out (workers_of h) + 1 ≤ h.journal.spare

@@ -1,5 +1,5 @@
 -- The laws of hubs, as statements.
-use Rattle.std.specs.Prelude.{◌≡◌, ℕ, Bool, ◌<◌, ◌≤◌, ◌+◌, ◌*◌, false, IsTrue, List, None, [], length, slice_index}
+use Rattle.std.specs.Prelude.{◌≡◌, ℕ, Bool, ◌<◌, ◌≤◌, ◌+◌, ◌*◌, false, IsTrue, List, None, [], ◌∷◌, ◌++◌, length, reverse, slice_index}
 use Rattle.graph_core.specs.declared.job.Job.{Job}
 use Rattle.graph_core.specs.Equations.{Assignment, Equations, IsGreatest}
 use Rattle.graph_core.specs.Queries.{equations_of}
@@ -8,7 +8,7 @@ use Rattle.pie_core.specs.Locals.{LocalValues}
 use Rattle.pie_core.specs.Solutions.{lowered, local_solution}
 use Rattle.pie_core.specs.Evaluations.{MayEvaluate}
 use Rattle.grape_event.specs.declared.event.Event.{Event}
-use Rattle.grape_event.specs.declared.event.Event.TheVariants.{Take, Give}
+use Rattle.grape_event.specs.declared.event.Event.TheVariants.{Take, Give, End}
 use Rattle.grape_event.specs.Events.{is_take}
 use Rattle.token_cut.specs.Parts.{SnapshotParts}
 use Rattle.base_machine.specs.Machine.{BaseState, BaseEvent, worker_at, is_running, system_with, base_state_of}
@@ -16,12 +16,14 @@ use Rattle.base_machine.specs.Runs.{Runs}
 use Rattle.base_machine.specs.Fitness.{is_quiet, IsFit}
 use Rattle.base_machine.specs.Bounds.{bound_of}
 use Rattle.legal_journal.specs.BaseEvents.{base_of}
+use Rattle.legal_journal.specs.Past.{has_ended}
 use Rattle.legal_journal.specs.Legal.{has_work_out}
+use Rattle.legal_journal.specs.Choices.{duty_choice}
 use Rattle.grape_hub.specs.HubValues.{HubValues}
 use Rattle.grape_hub.specs.declared.work.Work.{Work}
 use Rattle.grape_hub.specs.Calls.{Appended, IsWork, IsReady, MayGive}
 use Rattle.grape_hub.specs.States.{machine, beginning, state_of, workers_of, IsHub}
-use Rattle.grape_hub.specs.Choice.{choice_of}
+use Rattle.grape_hub.specs.Choices.{MayChoose}
 
 -- nobody is out
 abbrev pub IsCalm : HubValues → Type 0
@@ -53,10 +55,21 @@ CalmAfterTurn =
 abbrev pub CalmAfterOther : Type 0
 CalmAfterOther = (old new : HubValues) (e : Event) → IsHub old → IsCalm old → is_take e ≡ false → Appended old e new → IsHub new → IsCalm new
 
--- Where nobody is out and a lane has nothing to do, every worker rests and no mail waits.
+-- Where nobody is out and a lane has nothing to do before the end, every worker rests and no mail waits.
 abbrev pub IdleIsQuiet : Type 0
 IdleIsQuiet =
-    (h : HubValues) (lane : ℕ) → IsHub h → IsCalm h → lane < h.job.settings.lanes → choice_of (machine h) (state_of h) lane ≡ None → IsTrue (is_quiet (workers_of h))
+    (h : HubValues) (lane : ℕ) → IsHub h → IsCalm h → has_ended (reverse h.journal.events) ≡ false → lane < h.job.settings.lanes → MayChoose (machine h) (state_of h) lane None →
+    IsTrue (is_quiet (workers_of h))
+
+-- Where nobody is out before the end, and there is no duty, any one lane can go on.
+abbrev pub OneLaneGoesOn : Type 0
+OneLaneGoesOn =
+    (h : HubValues) (lane : ℕ) → IsHub h → IsCalm h → has_ended (reverse h.journal.events) ≡ false → lane < h.job.settings.lanes → duty_choice (machine h) (state_of h) ≡ None →
+    ¬ MayChoose (machine h) (state_of h) lane None
+
+-- A journal that ends by End has a quiet state: every worker rests and no mail waits.
+abbrev pub EndIsQuiet : Type 0
+EndIsQuiet = (h : HubValues) (journal : List Event) → IsHub h → h.journal.events ≡ journal ++ End ∷ [] → IsTrue (is_quiet (workers_of h))
 
 -- The Takes and Gives of a hub's journal are a run of the base machine, from the beginning to the hub's workers.
 abbrev pub HubsRun : Type 0

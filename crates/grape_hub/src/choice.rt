@@ -1,57 +1,141 @@
-ghost use Rattle.std.specs.Prelude.{◌≡◌, ◌-◌, ◌≤◌, length};
+ghost use Rattle.std.specs.Prelude.{◌≡◌, ◌-◌, ◌<◌, ◌≤◌, length};
 ghost use Rattle.std.specs.List.{range_with_len};
-ghost use Rattle.grape_hub.specs.Desks.{may_take_at, may_stretch_at, holds_at, first_where, first_desk};
-ghost use Rattle.grape_hub.specs.Kinds.{test_of};
+ghost use Rattle.legal_journal.specs.Delays.{has_enough};
+ghost use Rattle.grape_hub.specs.Kinds.{IsLeastRound, lesser, is_near, is_near_enough, turns_are_over, is_over, admits, holds_at, first_where, first_desk, first_of_kinds, kinds};
 
-use crate::desk::{Desk, Seat};
+use crate::desk::{Delay, Desk};
+use crate::kind::Kind;
+use crate::sight::Sight;
+use graph_core::Policy;
+use stop_probe::Probe;
 
-/// A kind of event that a lane looks for.
-#[derive(Clone, Copy)]
-pub enum Kind {
-    Take,
-    Stretch,
+/// The kinds in the order in which a lane looks for them.
+const KINDS: [Kind; 6] = [
+    Kind::Take,
+    Kind::Stretch,
+    Kind::Ack,
+    Kind::Nack,
+    Kind::Flag,
+    Kind::Hold,
+];
+
+/// The least round of a busy worker, where one is busy.
+pub fn least_round(desks: &[Desk]) -> Option<u64>
+    ensures { IsLeastRound desks.now result }
+{
+    let mut least = None;
+    'desks: for desk in desks {
+        if desk.is_busy() {
+            least = lesser(least, desk.round);
+        }
+    }
+    least
+}
+
+/// The lesser of two rounds, where there is one so far.
+fn lesser(least: Option<u64>, round: u64) -> Option<u64>
+    ensures { result ≡ lesser least round }
+{
+    match least {
+        Some(other) => Some(other.min(round)),
+        None => Some(round),
+    }
+}
+
+/// Whether a round is at most so far ahead of the least one.
+fn is_near(ahead: u32, least: Option<u64>, round: u64) -> bool
+    ensures { result ≡ is_near ahead least round }
+{
+    match least {
+        Some(least) => round.saturating_sub(u64::from(ahead)) <= least,
+        None => true,
+    }
+}
+
+/// Whether the policy lets a worker of this round go on: no busy worker is too many rounds behind it.
+fn is_near_enough(policy: &Policy, least: Option<u64>, round: u64) -> bool
+    ensures { result ≡ is_near_enough policy.now least round }
+{
+    match *policy {
+        Policy::Bsp => is_near(0, least, round),
+        Policy::Ap => true,
+        Policy::Ssp { c } | Policy::Aap { c, l: _ } => is_near(c, least, round),
+    }
+}
+
+/// Whether the turns of a Stretch are over.
+fn turns_are_over(delay: Option<Delay>, clock: u64) -> bool
+    ensures { result ≡ turns_are_over delay clock }
+{
+    match delay {
+        Some(delay) => u64::from(delay.turns) < clock.saturating_sub(delay.place),
+        None => false,
+    }
+}
+
+/// Whether so many batches end every delay.
+fn has_enough(policy: &Policy, batches: u64) -> bool
+    ensures { result ≡ has_enough policy.now batches }
+{
+    match *policy {
+        Policy::Aap { c: _, l } => u64::from(l) <= batches,
+        Policy::Bsp | Policy::Ap | Policy::Ssp { .. } => false,
+    }
 }
 
 impl Desk {
-    /// Whether the worker may take: it is fresh, or it rests, mail waits and its delay is over.
-    fn may_take(&self) -> bool
-        ensures { result ≡ may_take_at self.now }
+    /// Whether the delay of the worker is over.
+    fn is_over(&self, sight: &Sight) -> bool
+        ensures { result ≡ is_over sight.now self.now }
     {
-        match &self.seat {
-            Seat::Here { fresh, .. } => *fresh || self.buffer.batches() > 0 && self.stretched,
-            Seat::Out { .. } => false,
-        }
+        turns_are_over(self.delay, sight.clock) || has_enough(&sight.policy, self.buffer.batches())
     }
 
-    /// Whether a Stretch of the worker may come: it rests, mail waits, and there is none since its last Take.
-    fn may_stretch(&self) -> bool
-        ensures { result ≡ may_stretch_at self.now }
-    {
-        match &self.seat {
-            Seat::Here { fresh, .. } => !*fresh && self.buffer.batches() > 0 && !self.stretched,
-            Seat::Out { .. } => false,
-        }
-    }
-
-    fn admits(&self, kind: Kind) -> bool
-        ensures { result ≡ test_of kind self.now }
+    /// Whether an event of this kind of the worker with this number may come.
+    fn admits(&self, kind: Kind, sight: &Sight, probe: &Probe, worker: u32) -> bool
+        requires { worker < probe.now.workers }
+        ensures { result ≡ admits kind sight.now probe.now worker self.now }
     {
         match kind {
-            Kind::Take => self.may_take(),
-            Kind::Stretch => self.may_stretch(),
+            Kind::Take => {
+                (self.is_fresh() || self.rests() && self.has_mail() && self.is_over(sight))
+                    && is_near_enough(&sight.policy, sight.least, self.round)
+            }
+            Kind::Stretch => self.rests() && self.has_mail() && self.delay.is_none(),
+            Kind::Ack => {
+                probe.may_answer(worker)
+                    && self.rests()
+                    && !self.has_mail()
+                    && !probe.took_since_ask(worker)
+            }
+            Kind::Nack => {
+                probe.may_answer(worker)
+                    && self.rests()
+                    && (self.has_mail() || probe.took_since_ask(worker))
+            }
+            Kind::Flag => probe.may_flag(worker) && self.rests() && !self.has_mail(),
+            Kind::Hold => self.delay.is_some() && !self.is_over(sight),
         }
     }
 }
 
 /// The first worker from one number up to another whose desk admits the kind.
-fn first_between(kind: Kind, desks: &[Desk], from: usize, to: usize) -> Option<u32>
+fn first_between(
+    kind: Kind,
+    sight: &Sight,
+    probe: &Probe,
+    desks: &[Desk],
+    from: usize,
+    to: usize,
+) -> Option<u32>
     requires few { length desks.now ≤ 64 }
+    requires workers { probe.now.workers ≡ length desks.now }
     requires from { from ≤ to }
     requires to { to ≤ length desks.now }
-    ensures { result ≡ first_where (holds_at (test_of kind) desks.now) (range_with_len from (to - from)) }
+    ensures { result ≡ first_where (holds_at (admits kind sight.now probe.now) desks.now) (range_with_len from (to - from)) }
 {
     'desks: for worker in from..to {
-        if desks[worker].admits(kind) {
+        if desks[worker].admits(kind, sight, probe, worker as u32) {
             return Some(worker as u32);
         }
     }
@@ -59,13 +143,40 @@ fn first_between(kind: Kind, desks: &[Desk], from: usize, to: usize) -> Option<u
 }
 
 /// The first worker in turn whose desk admits the kind.
-pub fn first_in_turn(kind: Kind, desks: &[Desk], turn: usize) -> Option<u32>
+fn first_in_turn(
+    kind: Kind,
+    sight: &Sight,
+    probe: &Probe,
+    desks: &[Desk],
+    turn: usize,
+) -> Option<u32>
     requires few { length desks.now ≤ 64 }
+    requires workers { probe.now.workers ≡ length desks.now }
     requires turn { turn ≤ length desks.now }
-    ensures { result ≡ first_desk (test_of kind) desks.now turn }
+    ensures { result ≡ first_desk (admits kind sight.now probe.now) desks.now turn }
 {
-    match first_between(kind, desks, turn, desks.len()) {
+    match first_between(kind, sight, probe, desks, turn, desks.len()) {
         Some(worker) => Some(worker),
-        None => first_between(kind, desks, 0, turn),
+        None => first_between(kind, sight, probe, desks, 0, turn),
     }
+}
+
+/// The first kind of event that some worker admits, with the first such worker in turn.
+pub fn first_of_kinds(
+    sight: &Sight,
+    probe: &Probe,
+    desks: &[Desk],
+    turn: usize,
+) -> Option<(Kind, u32)>
+    requires few { length desks.now ≤ 64 }
+    requires workers { probe.now.workers ≡ length desks.now }
+    requires turn { turn ≤ length desks.now }
+    ensures { result ≡ first_of_kinds sight.now probe.now desks.now turn kinds }
+{
+    'kinds: for kind in KINDS {
+        if let Some(worker) = first_in_turn(kind, sight, probe, desks, turn) {
+            return Some((kind, worker));
+        }
+    }
+    None
 }

@@ -1,7 +1,13 @@
 ghost use Rattle.std.specs.Prelude.{◌≡◌, ◌≤◌, [], length};
 ghost use Rattle.std.specs.Vec.{vec_capacity};
-ghost use Rattle.grape_hub.specs.Desks.{AreHere, HandFits, IsHere, HasLocal, HaveLocals, TakesFrom, is_out};
+ghost use Rattle.message_buffer.specs.Buffers.{batches_in};
+ghost use Rattle.legal_journal.specs.Delays.{stretch_turns};
+ghost use Rattle.grape_hub.specs.Desks.{AreHere, HandFits, IsHere, HasLocal, HaveLocals, TakesFrom, is_out, is_fresh_at, rests_at, has_mail, is_busy_at, with_arrival, rested_desk};
+ghost use Rattle.grape_hub.specs.Posting.{CanReceive};
 
+use crate::sender::Sender;
+use delay_stretch::Pulse;
+use graph_core::Policy;
 use message_buffer::{Buffer, Hand};
 use pie_core::Local;
 use std::mem::replace;
@@ -22,12 +28,22 @@ pub enum Seat {
     },
 }
 
+/// The Stretch of a worker: its turns, and its place in the journal.
+#[derive(Clone, Copy)]
+pub struct Delay {
+    pub turns: u32,
+    pub place: u64,
+}
+
 /// What the hub keeps of a worker.
 #[derive(Drop)]
 pub struct Desk {
     pub seat: Seat,
-    /// Whether there is a Stretch since the last Take.
-    pub stretched: bool,
+    /// The Stretch since the last Take, where there is one.
+    pub delay: Option<Delay>,
+    pub round: u64,
+    /// When mail came.
+    pub pulse: Pulse,
     /// The mail that waits.
     pub buffer: Buffer,
 }
@@ -41,6 +57,60 @@ impl Desk {
             Seat::Here { .. } => false,
             Seat::Out { .. } => true,
         }
+    }
+
+    /// Whether the worker has taken nothing yet.
+    pub fn is_fresh(&self) -> bool
+        ensures { result ≡ is_fresh_at self.now }
+    {
+        match &self.seat {
+            Seat::Here { fresh, .. } => *fresh,
+            Seat::Out { .. } => false,
+        }
+    }
+
+    /// Whether the worker has given, and taken nothing since.
+    pub fn rests(&self) -> bool
+        ensures { result ≡ rests_at self.now }
+    {
+        match &self.seat {
+            Seat::Here { fresh, .. } => !*fresh,
+            Seat::Out { .. } => false,
+        }
+    }
+
+    /// Whether a batch waits.
+    pub fn has_mail(&self) -> bool
+        ensures { result ≡ has_mail self.now }
+    {
+        self.buffer.batches() > 0
+    }
+
+    /// Whether the worker has something to do, or does it.
+    pub fn is_busy(&self) -> bool
+        ensures { result ≡ is_busy_at self.now }
+    {
+        self.is_fresh() || self.is_out() || self.has_mail()
+    }
+
+    /// How many turns a Stretch has, if no pacer adds some.
+    pub fn least_turns(&self, policy: &Policy) -> u32
+        ensures turns { result ≡ stretch_turns policy.now (batches_in self.now.buffer) self.now.pulse }
+        ensures few { result ≤ 64 }
+    {
+        self.pulse.stretch(policy, self.buffer.batches())
+    }
+
+    /// Begins a batch. A worker that rests without mail catches up with the round of the sender. Takes no memory.
+    pub fn receive(&mut self, sender: Sender)
+        requires { CanReceive sender.place self.old }
+        ensures { self.new ≡ with_arrival sender.place sender.round self.old }
+    {
+        if self.rests() && !self.has_mail() {
+            self.round = self.round.max(sender.round);
+        }
+        self.pulse.arrived(sender.place);
+        self.buffer.begin_batch(false);
     }
 
     /// Hands out the values, with all mail that waits in the hand, to a lane whose Take stands at this place. Says first
@@ -59,8 +129,20 @@ impl Desk {
             unreachable!()
         };
         self.buffer.take(&mut hand);
-        self.stretched = false;
+        self.delay = None;
         (fresh, local, hand)
+    }
+
+    /// Takes the values back from a lane, with the hand. A new round begins.
+    pub fn rest(&mut self, round: u64, local: Local, hand: Hand)
+        ensures { self.new ≡ rested_desk round local hand self.old }
+    {
+        self.round = round;
+        self.seat = Seat::Here {
+            fresh: false,
+            local,
+            hand,
+        };
     }
 
     /// The values of the worker, which are here.
@@ -70,7 +152,9 @@ impl Desk {
     {
         let Desk {
             seat,
-            stretched: _stretched,
+            delay: _delay,
+            round: _round,
+            pulse: _pulse,
             buffer: _buffer,
         } = self;
         match seat {

@@ -1,52 +1,69 @@
-ghost use Rattle.std.specs.Prelude.{◌≡◌, ◌+◌, ◌<◌, ◌≤◌, true, false, nat_lt, if◌then◌else◌, count_by, IfOk};
-ghost use Rattle.graph_core.specs.declared.settings.Policy.TheVariants.{Ap};
+ghost use Rattle.std.specs.Prelude.{◌≡◌, ◌+◌, ◌<◌, ◌≤◌, [], true, false, nat_lt, if◌then◌else◌, count_by, reverse, IfOk, IfSome, OnOk, OnErr};
 ghost use Rattle.graph_core.specs.Graphs.{IsJob};
 ghost use Rattle.graph_core.specs.Fragments.{fragments_of};
-ghost use Rattle.grape_event.specs.declared.event.Event.TheVariants.{Take, Give, Stretch};
-ghost use Rattle.base_machine.specs.Machine.{worker_at, is_running};
-ghost use Rattle.grape_event.specs.Journals.{new_journal};
+ghost use Rattle.token_cut.specs.Parts.{SnapshotParts};
+ghost use Rattle.grape_event.specs.declared.event.Event.TheVariants.{Take, Give, Stop};
+ghost use Rattle.base_machine.specs.Machine.{worker_at, is_running, system_of, fresh_snapshot};
+ghost use Rattle.legal_journal.specs.Past.{has_ended};
 ghost use Rattle.legal_journal.specs.Legal.{has_work_out, is_admitted};
-ghost use Rattle.grape_hub.specs.States.{machine, state_of, workers_of, IsHub};
-ghost use Rattle.grape_hub.specs.Calls.{Appended, Chooses, TakesWorker, StretchesWorker, ReadyWhereTook, MayGive, HaveValues};
+ghost use Rattle.legal_journal.specs.Choices.{duty_choice};
+ghost use Rattle.grape_hub.specs.States.{machine, beginning, state_of, workers_of, IsHub};
+ghost use Rattle.grape_hub.specs.Choices.{IsChoice};
+ghost use Rattle.grape_hub.specs.Calls.{Appended, AppendedUnlessEnded, Unchanged, Begins, Chooses, ChoosesDuty, TakesWorker, MayStretch, StretchesWorker, IsNote, NotesEvent, ReadyWhereTook, MayGive, HaveValues, HaveSizes};
 ghost use Rattle.grape_hub.specs.Theorems.{IsCalm};
 ghost use Rattle.grape_hub.specs.Desks.{is_out};
 
-use crate::choice::{Kind, first_in_turn};
-use crate::desk::{Desk, Seat, into_locals};
+use crate::choice::{first_of_kinds, least_round};
+use crate::desk::{Delay, Desk, Seat, into_locals};
+use crate::hearing::hear;
+use crate::kind::Kind;
 use crate::open::{desks_of, routes_of};
 use crate::posting::post_changes;
-use crate::work::{Next, Work};
-use grape_event::{Event, Journal};
+use crate::sender::Sender;
+use crate::sight::Sight;
+use crate::work::{Duty, Next, Work};
+use delay_stretch::Pacer;
+use grape_event::{Event, Journal, StopCause};
 use grape_port::NoMemory;
 use graph_core::{Fragment, Job, Route, Rows};
 use pie_core::{Local, Pie};
 use std::alloc::Global;
 use std::marker::Model;
+use stop_probe::Probe;
+use token_cut::Snapshot;
+
+/// How many turns a pacer adds to a Stretch at most.
+const MOST_EXTRA: u32 = 64;
 
 /// The workers of a job, one for each fragment, with their values and mail, and the journal of what they did.
 ///
 /// A worker takes all mail that waits for it, a lane evaluates that, and gives the values back; each owned value that
-/// became lower is sent to the workers that mirror its vertex. The journal determines all that the hub holds. Contracts
-/// see the job, the journal and the sizes that the program asks for.
+/// became lower is sent to the workers that mirror its vertex. The policy says when a worker may go on, a delay lets
+/// mail gather before, and a pacer of its own may add to that. Once all workers rest, a probe asks each of them whether
+/// the run may end. The journal determines all that the hub holds but its pacers. Contracts see the job, the journal and
+/// the sizes that the program asks for.
 ///
-/// So far the policy is AP and there are no snapshots.
+/// So far there are no snapshots.
 #[derive(Drop)]
-pub struct Hub<P: Pie> {
+pub struct Hub<P: Pie, Q: Pacer> {
     program: P,
     job: Job,
     routes: Vec<Rows<Route>>,
     desks: Vec<Desk>,
+    pacers: Vec<Q>,
+    probe: Probe,
     journal: Journal,
     turn: u32,
+    start: Snapshot,
     /// Empty, with room for a Local of each worker, so that the end takes no memory.
     locals: Vec<Local>,
 }
 
-impl<P: Pie> Model for Hub<P> {
+impl<P: Pie, Q: Pacer> Model for Hub<P, Q> {
     ghost use Rattle.std.specs.Prelude.{◌≡◌, ◌≤◌, [], length};
     ghost use Rattle.std.specs.Vec.{vec_capacity};
     ghost use Rattle.grape_hub.specs.HubValues.{HubValues};
-    ghost use Rattle.grape_hub.specs.States.{machine, state_of, IsHub};
+    ghost use Rattle.grape_hub.specs.States.{machine, beginning, state_of, IsHub};
     ghost use Rattle.grape_hub.specs.Desks.{TablesFit};
 
     ghost Value = { HubValues };
@@ -55,44 +72,54 @@ impl<P: Pie> Model for Hub<P> {
 
     ghost invariant = { λ h. P.is_for h.program h.job
         × IsHub (record { job = h.job; counters = P.counters_for h.job; journal = h.journal })
-        × TablesFit (machine (record { job = h.job; counters = P.counters_for h.job; journal = h.journal })) (state_of (record { job = h.job; counters = P.counters_for h.job; journal = h.journal })) (P.counters_for h.job) h.routes.items h.desks.items h.turn
+        × TablesFit (machine (record { job = h.job; counters = P.counters_for h.job; journal = h.journal })) (state_of (record { job = h.job; counters = P.counters_for h.job; journal = h.journal })) (P.counters_for h.job) h.routes.items h.desks.items h.probe h.turn
+        × (h.start ≡ beginning (record { job = h.job; counters = P.counters_for h.job; journal = h.journal }))
         × (h.locals.items ≡ []) × (length h.desks.items ≤ vec_capacity h.locals) };
 }
 
-impl<P: Pie> Hub<P> {
+impl<P: Pie, Q: Pacer> Hub<P, Q> {
     /// A hub at the beginning: each worker is fresh with the start values, no mail waits, and the journal is empty. The
-    /// program is that of the job's query, and the fragments are the job's. The hub keeps a copy of the job and of the
-    /// fragments' routes.
+    /// program is that of the job's query, the fragments are the job's, and the start is the fresh snapshot. A worker
+    /// past the last pacer has none, which adds no turns. The hub keeps a copy of the job and of the fragments' routes.
     pub fn open(
         alloc: Global,
         program: P,
         job: &Job,
         fragments: &[Fragment],
-    ) -> Result<Hub<P>, NoMemory>
+        pacers: Vec<Q>,
+        start: Snapshot,
+    ) -> Result<Hub<P, Q>, NoMemory>
         requires job { IsJob job.now }
         requires program { P.is_for program job.now }
         requires fragments { fragments.now ≡ fragments_of job.now }
-        requires policy { job.now.settings.policy ≡ Ap }
+        requires start { start ≡ fresh_snapshot (system_of job.now) }
         requires snapshot { job.now.settings.snapshot ≡ 0 }
-        ensures beginning { IfOk result (λ hub. hub ≡ record { job = job.now; counters = P.counters_for job.now; journal = new_journal }) }
+        ensures beginning { IfOk result (λ hub. Begins job.now (P.counters_for job.now) hub) }
         ensures hub { IfOk result (λ hub. IsHub hub) }
     {
         let order = program.order();
         let counters = program.counters();
+        let mut journal = Journal::new(alloc);
+        journal.reserve(1)?;
         Ok(Hub {
             routes: routes_of(alloc, fragments)?,
             desks: desks_of(alloc, job, fragments, order, counters)?,
             job: job.copy(alloc)?,
             program,
-            journal: Journal::new(alloc),
+            pacers,
+            probe: Probe::new(job.settings.fragments),
+            journal,
             turn: 0,
+            start,
             locals: Vec::with_capacity(alloc, fragments.len())?,
         })
     }
 
     /// Appends the first event in the order of choice that is admitted and concerns this lane: a Take of a worker that may
-    /// go on, or else a Stretch, in turn from the worker after that of the last Take. `Idle` comes exactly where none is
-    /// admitted. The lane has no Work out. Room for a Take and its Give is made before the Take.
+    /// go on, or else a Stretch, an answer to the probe, a Flag or a Hold, in turn from the worker after that of the last
+    /// Take. `Idle` comes exactly where none is admitted and the journal hasn't ended, and `Ended` where it has. The lane
+    /// has no Work out. Room for the event, for a Give of each worker that is out and for a Stop is made first; then the
+    /// worker's pacer is asked, once for each Stretch.
     pub fn next(&mut self, lane: u32) -> Next
         requires lane { lane < self.old.job.settings.lanes }
         requires free { has_work_out (state_of self.old) lane ≡ false }
@@ -103,14 +130,80 @@ impl<P: Pie> Hub<P> {
         if self.journal.ended() {
             return Next::Ended;
         }
-        let turn = self.turn as usize;
-        if let Some(worker) = first_in_turn(Kind::Take, &self.desks, turn) {
-            return self.take(worker, lane);
+        let Some((kind, worker)) = self.choice(lane) else {
+            return Next::Idle;
+        };
+        match kind {
+            Kind::Take => self.take(worker, lane),
+            Kind::Stretch => self.stretch(worker),
+            Kind::Ack => self.did(Event::Ack { worker }),
+            Kind::Nack => self.did(Event::Nack { worker }),
+            Kind::Flag => self.did(Event::Flag { worker }),
+            Kind::Hold => self.did(Event::Hold { worker }),
         }
-        if let Some(worker) = first_in_turn(Kind::Stretch, &self.desks, turn) {
-            return self.stretch(worker);
+    }
+
+    /// Appends the first admitted event of Seal, End, Begin and Ask. `Nothing` comes exactly where none is admitted and the
+    /// journal hasn't ended, and `Ended` where it has. Room for the event, for a Give of each worker that is out and for
+    /// a Stop is made first. A sealed snapshot will be written into `into`; so far there are none.
+    pub fn duty(&mut self, into: &mut Snapshot) -> Duty
+        ensures chosen { ChoosesDuty self.old result self.new }
+        ensures into { into.new ≡ into.old }
+        ensures hub { IsHub self.new }
+    {
+        if self.journal.ended() {
+            return Duty::Ended;
         }
-        Next::Idle
+        let Some(event) = self.duty_event() else {
+            return Duty::Nothing;
+        };
+        match self.note(event) {
+            Ok(()) => Duty::Did(event),
+            Err(NoMemory) => Duty::NoMemory,
+        }
+    }
+
+    /// Appends a Stop, where the journal hasn't ended. Takes no memory.
+    pub fn stop(&mut self, cause: StopCause)
+        ensures stopped { AppendedUnlessEnded self.old (Stop cause) self.new }
+        ensures hub { IsHub self.new }
+    {
+        if self.journal.ended() {
+            return;
+        }
+        self.journal.push(Event::Stop { cause });
+    }
+
+    /// The kind and the worker of the lane's choice, where there is one.
+    fn choice(&self, lane: u32) -> Option<(Kind, u32)>
+        requires lane { lane < self.now.job.settings.lanes }
+        requires free { has_work_out (state_of self.now) lane ≡ false }
+        requires going { has_ended (reverse self.now.journal.events) ≡ false }
+        ensures choice { IsChoice (machine self.now) (state_of self.now) lane result }
+        ensures hub { IsHub self.now }
+    {
+        let sight = Sight {
+            policy: self.job.settings.policy,
+            clock: self.journal.len(),
+            least: least_round(&self.desks),
+        };
+        first_of_kinds(&sight, &self.probe, &self.desks, self.turn as usize)
+    }
+
+    /// The coordinator's choice.
+    fn duty_event(&self) -> Option<Event>
+        requires going { has_ended (reverse self.now.journal.events) ≡ false }
+        ensures choice { duty_choice (machine self.now) (state_of self.now) ≡ result }
+        ensures note { IfSome result IsNote }
+        ensures hub { IsHub self.now }
+    {
+        if self.probe.may_end() {
+            return Some(Event::End);
+        }
+        if self.probe.may_ask() {
+            return Some(Event::Ask);
+        }
+        None
     }
 
     /// Appends the Take of a worker that isn't out.
@@ -122,12 +215,14 @@ impl<P: Pie> Hub<P> {
     {
         let count = self.desks.len();
         let out = works_out(&self.desks);
-        if self.journal.reserve(out + 2).is_err() {
+        if self.journal.reserve(out + 3).is_err() {
             return Next::NoMemory;
         }
         let place = self.journal.len();
         let (fresh, local, hand) = self.desks[worker as usize].take(lane, place);
-        self.journal.push(Event::Take { worker, lane });
+        let event = Event::Take { worker, lane };
+        hear(&mut self.probe, event);
+        self.journal.push(event);
         self.turn = following(worker, count);
         Next::Took(Work {
             worker,
@@ -138,29 +233,67 @@ impl<P: Pie> Hub<P> {
         })
     }
 
-    /// Appends a Stretch of a worker, without turns.
+    /// Appends a Stretch of a worker, of the least turns and what its pacer adds.
     fn stretch(&mut self, worker: u32) -> Next
-        requires admitted { is_admitted (machine self.old) (state_of self.old) (Stretch worker 0) ≡ true }
+        requires admitted { MayStretch self.old worker }
         ensures stretched { StretchesWorker self.old worker result self.new }
         ensures hub { IsHub self.new }
     {
         let out = works_out(&self.desks);
-        if self.journal.reserve(out + 1).is_err() {
+        if self.journal.reserve(out + 2).is_err() {
             return Next::NoMemory;
         }
-        self.desks[worker as usize].stretched = true;
-        let event = Event::Stretch { worker, turns: 0 };
+        let place = self.journal.len();
+        let policy = self.job.settings.policy;
+        let desk = &self.desks[worker as usize];
+        let least = desk.least_turns(&policy);
+        let waiting = desk.buffer.waiting();
+        let turns = least + extra_of(&mut self.pacers, worker, waiting);
+        self.desks[worker as usize].delay = Some(Delay { turns, place });
+        let event = Event::Stretch { worker, turns };
         self.journal.push(event);
         Next::Did(event)
     }
 
-    /// Appends the Give of the Work that the lane has out, and sends each owned value that became lower along its routes.
-    /// The values are the local solution of those at the Take lowered by the hand. Takes no memory.
-    pub fn give(&mut self, lane: u32, work: Work)
-        requires { MayGive self.old lane work }
-        ensures given { Appended self.old (Give work.worker) self.new }
+    /// Appends an event that only the probe hears of, for a lane.
+    fn did(&mut self, event: Event) -> Next
+        requires note { IsNote event }
+        requires admitted { is_admitted (machine self.old) (state_of self.old) event ≡ true }
+        ensures did { NotesEvent self.old event result self.new }
         ensures hub { IsHub self.new }
     {
+        match self.note(event) {
+            Ok(()) => Next::Did(event),
+            Err(NoMemory) => Next::NoMemory,
+        }
+    }
+
+    /// Appends an event that changes no worker, and that only the probe hears of.
+    fn note(&mut self, event: Event) -> Result<(), NoMemory>
+        requires note { IsNote event }
+        requires admitted { is_admitted (machine self.old) (state_of self.old) event ≡ true }
+        ensures noted { OnOk result (Appended self.old event self.new) }
+        ensures no_memory { OnErr result (Unchanged self.old self.new) }
+        ensures hub { IsHub self.new }
+    {
+        let out = works_out(&self.desks);
+        self.journal.reserve(out + 2)?;
+        hear(&mut self.probe, event);
+        self.journal.push(event);
+        Ok(())
+    }
+
+    /// Appends the Give of the Work that the lane has out, and sends each owned value that became lower along its routes.
+    /// The values are the local solution of those at the Take lowered by the hand. Where the journal has ended nothing is
+    /// appended, and the values are given up. Takes no memory.
+    pub fn give(&mut self, lane: u32, work: Work)
+        requires { MayGive self.old lane work }
+        ensures given { AppendedUnlessEnded self.old (Give work.worker) self.new }
+        ensures hub { IsHub self.new }
+    {
+        if self.journal.ended() {
+            return;
+        }
         let Work {
             worker,
             mut local,
@@ -168,14 +301,13 @@ impl<P: Pie> Hub<P> {
             ..
         } = work;
         let index = worker as usize;
+        let place = self.journal.len();
         self.journal.push(Event::Give { worker });
-        post_changes(&self.routes[index], &local, &mut self.desks);
+        let round = self.desks[index].round + 1;
+        let sender = Sender { place, round };
+        post_changes(sender, &self.routes[index], &local, &mut self.desks);
         local.settle();
-        self.desks[index].seat = Seat::Here {
-            fresh: false,
-            local,
-            hand,
-        };
+        self.desks[index].rest(round, local, hand);
     }
 
     /// The journal so far.
@@ -186,19 +318,33 @@ impl<P: Pie> Hub<P> {
         &self.journal
     }
 
-    /// The values of each worker, in order, and the journal. Nobody is out.
-    pub fn finish(self) -> (Vec<Local>, Journal)
-        requires { IsCalm self }
+    /// The values of each worker, in order, with its sizes, the journal, and the start. The journal has ended, and nobody is out.
+    pub fn finish(self) -> (Vec<Local>, Journal, Snapshot)
+        requires ended { has_ended (reverse self.journal.events) ≡ true }
+        requires calm { IsCalm self }
         ensures values { HaveValues self result.0.items }
+        ensures sizes { HaveSizes self result.0.items }
         ensures journal { result.1 ≡ self.journal }
+        ensures start { result.2 ≡ beginning self }
     {
         let Hub {
             desks,
             journal,
+            start,
             locals,
             ..
         } = self;
-        (into_locals(desks, locals), journal)
+        (into_locals(desks, locals), journal, start)
+    }
+}
+
+/// What the pacer of a worker adds to a Stretch: none where it has no pacer.
+fn extra_of<Q: Pacer>(pacers: &mut [Q], worker: u32, waiting: u32) -> u32
+    ensures { result ≤ 64 }
+{
+    match pacers.get_mut(worker as usize) {
+        Some(pacer) => pacer.extra(worker, waiting).min(MOST_EXTRA),
+        None => 0,
     }
 }
 

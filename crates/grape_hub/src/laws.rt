@@ -1,6 +1,6 @@
 ghost use Rattle.graph_core.specs.declared.job.Job.{Job};
 ghost use Rattle.graph_core.specs.Graphs.{IsJob};
-ghost use Rattle.grape_hub.specs.Theorems.{WorksMayBeEvaluated, EvaluatedMayBeGiven, CalmIsFree, CalmAtBeginning, CalmAfterTurn, CalmAfterOther, IdleIsQuiet, HubsRun, IsConfluent, QuietIsTheAnswer, JournalIsBounded};
+ghost use Rattle.grape_hub.specs.Theorems.{WorksMayBeEvaluated, EvaluatedMayBeGiven, CalmIsFree, CalmAtBeginning, CalmAfterTurn, CalmAfterOther, IdleIsQuiet, OneLaneGoesOn, EndIsQuiet, HubsRun, IsConfluent, QuietIsTheAnswer, JournalIsBounded};
 
 use pie_core::Pie;
 
@@ -21,6 +21,16 @@ pub fn turns_are_calm()
 /// Where nobody is out and a lane has nothing to do, every worker rests and no mail waits.
 pub fn idle_is_quiet()
     ensures { IdleIsQuiet }
+{}
+
+/// Where nobody is out and the coordinator has no duty, any one lane has something to do.
+pub fn one_lane_goes_on()
+    ensures { OneLaneGoesOn }
+{}
+
+/// Where the journal ends by End, every worker rests and no mail waits.
+pub fn end_is_quiet()
+    ensures { EndIsQuiet }
 {}
 
 /// Where every worker rests and no mail waits, the values of the owners are the greatest solution, whatever the order in

@@ -1,21 +1,25 @@
 //! The core of the engine: which worker may go on, what it takes, and where what it gives is sent.
 //!
 //! A [`Hub`] serves the workers of a job, one for each fragment, to lanes. It promises that its journal is legal, that it
-//! is itself the state after that journal, and that [`Hub::next`] appends the first event that is admitted in the order
-//! of choice. It evaluates nothing: a lane gets a [`Work`], evaluates it, and gives it back.
+//! is itself the state after that journal, and that [`Hub::next`] and [`Hub::duty`] append the first event that is
+//! admitted in the order of choice. It evaluates nothing: a lane gets a [`Work`], evaluates it, and gives it back.
 #![tactic(auto)]
 
 mod choice;
 mod desk;
+mod hearing;
 mod hub;
+mod kind;
 mod laws;
 mod open;
 mod posting;
+mod sender;
+mod sight;
 mod work;
 
 pub use hub::Hub;
 pub use laws::{
-    every_program_is_confluent, hubs_are_bounded, hubs_run, idle_is_quiet, quiet_is_the_answer,
-    turns_are_calm, works_go_round,
+    end_is_quiet, every_program_is_confluent, hubs_are_bounded, hubs_run, idle_is_quiet,
+    one_lane_goes_on, quiet_is_the_answer, turns_are_calm, works_go_round,
 };
-pub use work::{Next, Work};
+pub use work::{Duty, Next, Work};

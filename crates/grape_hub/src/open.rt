@@ -6,6 +6,7 @@ ghost use Rattle.pie_core.specs.Solutions.{starts_of};
 ghost use Rattle.grape_hub.specs.Openings.{new_desk, HasFewOwned, IsPartOf};
 
 use crate::desk::{Desk, Seat};
+use delay_stretch::Pulse;
 use grape_port::NoMemory;
 use graph_core::{Fragment, Job, Route, Rows};
 use message_buffer::{Buffer, Hand};
@@ -87,7 +88,9 @@ fn desk_of(
             local,
             hand,
         },
-        stretched: false,
+        delay: None,
+        round: 0,
+        pulse: Pulse::new(alloc)?,
         buffer,
     })
 }

@@ -33,3 +33,18 @@ pub enum Next {
     /// There is no memory for the event. Nothing has changed.
     NoMemory,
 }
+
+/// What the coordinator did.
+#[derive(Clone, Copy, Debug, PartialEq, Eq)]
+pub enum Duty {
+    /// This event was appended.
+    Did(Event),
+    /// The Seal of this epoch was appended, and the snapshot was written.
+    Sealed(u64),
+    /// None of Seal, End, Begin and Ask is admitted.
+    Nothing,
+    /// The journal has ended.
+    Ended,
+    /// There is no memory for the event. Nothing has changed.
+    NoMemory,
+}

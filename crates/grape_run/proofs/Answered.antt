@@ -1,9 +1,7 @@
--- The values that the engine comes to rest with are the answer.
-use Rattle.std.proofs.Common.{◌≡◌, ℕ, ◌<◌, sym, ◌∙◌, ap, subst, List, slice_index, Result, Ok, Err, IfOk}
+-- The values of a run that is done are the answer.
+use Rattle.std.proofs.Common.{◌≡◌, sym, ◌∙◌, ap, subst, List, Result, Ok, Err, IfOk}
 use Rattle.graph_core.specs.declared.job.Job.{Job}
-use Rattle.graph_core.specs.declared.query.Query.TheVariants.{Sim}
-use Rattle.graph_core.specs.PatternGraph.{PatternGraph}
-use Rattle.graph_core.specs.Graphs.{count_of, IsPattern, IsQuery, IsJob}
+use Rattle.graph_core.specs.Graphs.{IsJob}
 use Rattle.graph_core.specs.Meaning.{IsValue}
 use Rattle.graph_core.specs.Queries.{equations_of}
 use Rattle.graph_core.proofs.Cutting.{fragments_cut}
@@ -11,11 +9,10 @@ use Rattle.graph_core.proofs.Greatest.{greatest_is_there}
 use Rattle.graph_core.proofs.Lawful.{lawful}
 use Rattle.graph_core.proofs.Values.{job-meaning}
 use Rattle.pie_core.specs.Locals.{LocalValues}
-use Rattle.pie_sim.specs.SimJobs.{AreTargets, IsSimJob}
 use Rattle.answer_text.specs.AnswerTable.{AnswerTable}
-use Rattle.answer_text.specs.AnswerText.{answer_text, kind_of, rows_of, IsAnswerText}
-use Rattle.answer_text.specs.Assembled.{values_at, IsAssembled}
-use Rattle.grape_run.specs.Engine.{AreGreatest}
+use Rattle.answer_text.specs.AnswerText.{answer_text, kind_of, IsAnswerText}
+use Rattle.answer_text.specs.Assembled.{IsAssembled}
+use Rattle.grape_run.specs.Answered.{AreGreatest}
 
 pub assembled_is_answer : (job : Job) (locals : List LocalValues) (table : AnswerTable) → IsJob job → AreGreatest job locals → IsAssembled job locals table → IsAnswerText job (answer_text table.kind table.rows)
 assembled_is_answer job locals table h greatest made =
@@ -38,11 +35,3 @@ pub assembled_answers : {E : Type 0} (job : Job) (locals slice : List LocalValue
 assembled_answers job locals slice r h same greatest made =
     if_ok_since (IsAssembled job slice) (λ table. IsAnswerText job (answer_text table.kind table.rows)) r
     (λ table m. assembled_is_answer job slice table h (subst (AreGreatest job) (sym same) greatest) m) made
-
--- A job that asks for a simulation has its pattern, and the program of the pattern is its own.
-
-pub has_pattern : (job : Job) (pattern : PatternGraph) → IsJob job → job.query ≡ Sim pattern → IsPattern pattern
-has_pattern job pattern h e = subst IsQuery e h.query
-
-pub is_sim_job : (job : Job) (pattern : PatternGraph) (targets : List ℕ) → IsJob job → job.query ≡ Sim pattern → AreTargets targets pattern.links → IsSimJob targets job
-is_sim_job job pattern targets h e t = record { is_job = h; pattern = pattern; asks = e; targets_are = t }

@@ -4,17 +4,15 @@ ghost use Rattle.graph_core.specs.Fragments.{fragments_of};
 ghost use Rattle.graph_text.specs.Input.{IsBuilt};
 ghost use Rattle.answer_text.specs.AnswerText.{answer_text, IsAnswerText};
 ghost use Rattle.answer_text.specs.Assembled.{FitParts};
-ghost use Rattle.grape_run.specs.Engine.{AreGreatest};
+ghost use Rattle.grape_run.specs.Answered.{AreGreatest};
 
-use crate::engine::settle;
 use answer_text::{Answer, assemble};
+use coordinator::{Ran, done_is_the_answer, run_alone, shape_of};
+use delay_stretch::Calm;
 use fragment_cut::fragment;
 use grape_port::NoMemory;
-use graph_core::{Fragment, Job, Query};
+use graph_core::{Fragment, Job};
 use pie_core::Local;
-use pie_dist::Dist;
-use pie_flood::{Labels, Reach};
-use pie_sim::Sim;
 use std::alloc::Global;
 
 /// The answer of a job, evaluated on its fragments.
@@ -28,7 +26,7 @@ pub(crate) fn answer_of(alloc: Global, job: &Job) -> Result<Answer, NoMemory>
     assemble(alloc, job, &fragments, &locals)
 }
 
-/// The values of each fragment when the job's own program has come to rest.
+/// The values of each fragment at the end of a run on one lane.
 fn locals_of(alloc: Global, job: &Job, fragments: &[Fragment]) -> Result<Vec<Local>, NoMemory>
     requires job { IsJob job.now }
     requires built { IsBuilt job.now }
@@ -36,14 +34,14 @@ fn locals_of(alloc: Global, job: &Job, fragments: &[Fragment]) -> Result<Vec<Loc
     ensures fit { IfOk result (λ locals. FitParts fragments.now locals.items) }
     ensures greatest { IfOk result (λ locals. AreGreatest job.now locals.items) }
 {
-    match &job.query {
-        Query::Dist(_) => settle(alloc, job, fragments, &Dist::new(), Dist::new()),
-        Query::Label => settle(alloc, job, fragments, &Labels::new(), Labels::new()),
-        Query::Reach(_) => settle(alloc, job, fragments, &Reach::new(), Reach::new()),
-        Query::Sim(pattern) => {
-            let program = Sim::new(alloc, pattern)?;
-            let kept = Sim::new(alloc, pattern)?;
-            settle(alloc, job, fragments, &program, kept)
-        }
+    done_is_the_answer();
+    let shape = shape_of(alloc, job, fragments)?;
+    let pacers: Vec<Calm> = Vec::new(alloc);
+    match run_alone(alloc, job, fragments, &shape, pacers) {
+        Ran::Done {
+            locals,
+            story: _story,
+        } => Ok(locals),
+        Ran::Stopped { .. } | Ran::NoMemory => Err(NoMemory),
     }
 }

@@ -8,9 +8,6 @@
 #![tactic(auto)]
 
 mod answers;
-#[cfg(test)]
-mod bounded;
-mod engine;
 mod input;
 mod notes;
 mod run;

@@ -5,13 +5,15 @@ use Rattle.std.specs.List.{AllByRecursion}
 use Rattle.std.proofs.lemmas.Bool.Decides.{nat_tests}
 use Rattle.std.proofs.lemmas.Option.{same_Some}
 use Rattle.grape_port.specs.Decimal.{number_of}
+use Rattle.graph_core.specs.declared.settings.Policy.TheVariants as policy
+use Rattle.graph_core.specs.Graphs.{IsPolicy}
 use Rattle.graph_text.specs.declared.fault.Why.{Why}
 use Rattle.graph_text.specs.declared.fault.Why.TheVariants as causes
 use Rattle.graph_text.specs.declared.statement.Question.{Question}
 use Rattle.graph_text.specs.declared.statement.Question.TheVariants.{Distances, Labels, Reaches, Simulation}
 use Rattle.graph_text.specs.declared.statement.Statement.{Statement}
-use Rattle.graph_text.specs.declared.statement.Statement.TheVariants.{Nothing, Joins, Vertex, Asks, Node, Link, Fragments, Cuts}
-use Rattle.graph_text.specs.Statements.{Range, is_in, are_in, word32, node_number, fragment_count, cons_number, numbers_of, statement_in, made_of, first, second, Form, completed, statement_by, edge_form, one_word_forms, query_forms, cut_forms, second_word_forms, statement_if, statement_among, keyword_statement, begins_with_digit, is_comment, statement_of}
+use Rattle.graph_text.specs.declared.statement.Statement.TheVariants.{Nothing, Joins, Vertex, Asks, Node, Link, Fragments, Lanes, Cuts, Follows}
+use Rattle.graph_text.specs.Statements.{Range, is_in, are_in, word32, node_number, fragment_count, lane_count, rounds_ahead, batch_count, cons_number, numbers_of, statement_in, made_of, first, second, Form, completed, statement_by, edge_form, one_word_forms, query_forms, cut_forms, policy_forms, second_word_forms, statement_if, statement_among, keyword_statement, begins_with_digit, is_comment, statement_of}
 
 abbrev pub AsksInRange : Question → Type 0
 AsksInRange (Distances source) = source < 2 ^ 32
@@ -27,7 +29,9 @@ InRange (Asks q) = AsksInRange q
 InRange (Node node) = (node.number < 64) × (node.label < 2 ^ 32)
 InRange (Link link) = (link.from < 64) × (link.to < 64)
 InRange (Fragments n) = (1 ≤ n) × (n ≤ 64)
+InRange (Lanes n) = (1 ≤ n) × (n ≤ 16)
 InRange (Cuts c) = ⊤
+InRange (Follows p) = IsPolicy p
 
 pub OkInRange : Result Statement Why → Type 0
 OkInRange r = IfOk r InRange
@@ -126,7 +130,10 @@ one_words_make = (
     makes_two node_number word32 (λ ns. Node (record { number = first ns; label = second ns })) (λ n m a b c d. (omega (arith, b), omega (arith, d))),
     (
       makes_two node_number node_number (λ ns. Link (record { from = first ns; to = second ns })) (λ n m a b c d. (omega (arith, b), omega (arith, d))),
-      (makes_one fragment_count (λ ns. Fragments (first ns)) (λ n a b. (a, b)), tt),
+      (
+        makes_one fragment_count (λ ns. Fragments (first ns)) (λ n a b. (a, b)),
+        (makes_one lane_count (λ ns. Lanes (first ns)) (λ n a b. (a, b)), tt),
+      ),
     ),
   ),
 )
@@ -134,6 +141,19 @@ one_words_make = (
 cuts_make : AllByRecursion FormMakes cut_forms
 unfolding Makes
 cuts_make = ((λ ns l e. tt), ((λ ns l e. tt), tt))
+
+policies_make : AllByRecursion FormMakes policy_forms
+unfolding Makes
+policies_make = (
+  (λ ns l e. tt),
+  (
+    (λ ns l e. tt),
+    (
+      makes_one rounds_ahead (λ ns. Follows (policy.Ssp (first ns))) (λ n a b. b),
+      (makes_two rounds_ahead batch_count (λ ns. Follows (policy.Aap (first ns) (second ns))) (λ n m a b c d. (b, c, d)), tt),
+    ),
+  ),
+)
 
 found_step : (c : Bool) (form : Form) (o : Option Form) (words : List (List ℕ)) → FormMakes form → OkInRange (statement_if o words) → OkInRange (statement_if (cond c (Some form) o) words)
 found_step true form o words h k = made_ok form.ranges form.says (completed form.last (length form.ranges) words) h
@@ -149,16 +169,17 @@ unfolding OkInRange
 among_in forms [] h = tt
 among_in forms (word ∷ words) h = found_in (λ form. bytes_eq word form.keyword) forms words h
 
-keyword_step : (b c : Bool) (word : List ℕ) (words : List (List ℕ)) → OkInRange (keyword_statement (cond b (Some query_forms) (cond c (Some cut_forms) None)) word words)
-keyword_step true c word words = among_in query_forms words queries_make
-keyword_step false true word words = among_in cut_forms words cuts_make
-keyword_step false false word words = among_in one_word_forms (word ∷ words) one_words_make
+keyword_step : (b c d : Bool) (word : List ℕ) (words : List (List ℕ)) → OkInRange (keyword_statement (cond b (Some query_forms) (cond c (Some cut_forms) (cond d (Some policy_forms) None))) word words)
+keyword_step true c d word words = among_in query_forms words queries_make
+keyword_step false true d word words = among_in cut_forms words cuts_make
+keyword_step false false true word words = among_in policy_forms words policies_make
+keyword_step false false false word words = among_in one_word_forms (word ∷ words) one_words_make
 
 line_step : (b c : Bool) (word : List ℕ) (words : List (List ℕ)) → OkInRange (cond b (Ok Nothing) (cond c (statement_by edge_form (word ∷ words)) (keyword_statement (second_word_forms word) word words)))
 unfolding OkInRange
 line_step true c word words = tt
 line_step false true word words = made_ok edge_form.ranges edge_form.says (completed edge_form.last 3 (word ∷ words)) edge_makes
-line_step false false word words = keyword_step (bytes_eq word (codes "query")) (bytes_eq word (codes "cut")) word words
+line_step false false word words = keyword_step (bytes_eq word (codes "query")) (bytes_eq word (codes "cut")) (bytes_eq word (codes "policy")) word words
 
 -- what a line says has its numbers in range
 pub statement_is_in_range : (words : List (List ℕ)) → OkInRange (statement_of words)

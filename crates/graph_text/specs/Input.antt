@@ -10,6 +10,7 @@ use Rattle.graph_core.specs.declared.query.Query.{Query}
 use Rattle.graph_core.specs.declared.query.Query.TheVariants as query
 use Rattle.graph_core.specs.declared.settings.Cut.{Cut}
 use Rattle.graph_core.specs.declared.settings.Cut.TheVariants as cut
+use Rattle.graph_core.specs.declared.settings.Policy.{Policy}
 use Rattle.graph_core.specs.declared.settings.Policy.TheVariants as policy
 use Rattle.graph_core.specs.declared.settings.Settings.{Settings}
 use Rattle.graph_core.specs.declared.job.Job.{Job}
@@ -21,7 +22,7 @@ use Rattle.graph_text.specs.Lines.{lines_of, words_of, is_ended, is_too_long}
 use Rattle.graph_text.specs.declared.statement.Question.{Question}
 use Rattle.graph_text.specs.declared.statement.Question.TheVariants.{Distances, Labels, Reaches, Simulation}
 use Rattle.graph_text.specs.declared.statement.Statement.{Statement}
-use Rattle.graph_text.specs.declared.statement.Statement.TheVariants.{Joins, Vertex, Asks, Node, Link, Fragments, Cuts}
+use Rattle.graph_text.specs.declared.statement.Statement.TheVariants.{Joins, Vertex, Asks, Node, Link, Fragments, Lanes, Cuts, Follows}
 use Rattle.graph_text.specs.Statements.{statement_of}
 use Rattle.graph_text.specs.NumberSets.{insert_number, is_among}
 
@@ -52,7 +53,9 @@ vertex_numbers (s ∷ ss) = numbers_with s (vertex_numbers ss)
 abbrev pub repeats : Statement → Statement → Bool
 repeats (Asks q) (Asks r) = true
 repeats (Fragments m) (Fragments n) = true
+repeats (Lanes m) (Lanes n) = true
 repeats (Cuts c) (Cuts d) = true
+repeats (Follows p) (Follows q) = true
 repeats (Vertex m k) (Vertex n l) = m == n
 repeats (Node m) (Node n) = m.number == n.number
 repeats s t = false
@@ -91,9 +94,9 @@ first_bad cause before [] = None
 first_bad cause before (line ∷ lines) =
     option_or (option_map (bad (length before + 1)) (cause before line)) (first_bad cause (before ++ line ∷ []) lines)
 
--- the settings whose lines are not built stand at one value
+-- the setting whose line is not built stands at one value
 abbrev pub AreBuilt : Settings → Type 0
-AreBuilt settings = (settings.policy ≡ policy.Ap) × (settings.snapshot ≡ 0)
+AreBuilt settings = settings.snapshot ≡ 0
 
 -- what a job is whose lines are built
 abbrev pub IsBuilt : Job → Type 0
@@ -124,23 +127,31 @@ abbrev pub fragments_in : Statement → Option ℕ
 fragments_in (Fragments n) = Some n
 fragments_in s = None
 
+abbrev pub lanes_in : Statement → Option ℕ
+lanes_in (Lanes n) = Some n
+lanes_in s = None
+
 abbrev pub cut_in : Statement → Option Cut
 cut_in (Cuts c) = Some c
 cut_in s = None
+
+abbrev pub policy_in : Statement → Option Policy
+policy_in (Follows p) = Some p
+policy_in s = None
 
 abbrev pub label_in : ℕ → Statement → Option ℕ
 label_in number (Vertex n label) = if n == number then Some label else None
 label_in number s = None
 
--- The settings, with what holds where a line is missing: 4 fragments, cut by a hash. No line gives the others yet: one
--- lane, where no fragment waits for another, and no snapshots.
+-- The settings, with what holds where a line is missing: 4 fragments, cut by a hash, 2 lanes, and a fragment runs at most
+-- 4 rounds ahead and lets mail gather up to 2 batches. No line asks for snapshots yet: there are none.
 abbrev pub settings_of : List Statement → Settings
 settings_of ss =
     record {
       fragments = unwrap_or (first_of fragments_in ss) 4;
-      lanes = 1;
+      lanes = unwrap_or (first_of lanes_in ss) 2;
       cut = unwrap_or (first_of cut_in ss) cut.Hash;
-      policy = policy.Ap;
+      policy = unwrap_or (first_of policy_in ss) (policy.Aap 4 2);
       snapshot = 0;
     }
 

@@ -4,6 +4,7 @@ use Rattle.graph_core.specs.declared.edge.Edge.{Edge}
 use Rattle.graph_core.specs.declared.pattern.PatternNode.{PatternNode}
 use Rattle.graph_core.specs.declared.pattern.PatternLink.{PatternLink}
 use Rattle.graph_core.specs.declared.settings.Cut.{Cut}
+use Rattle.graph_core.specs.declared.settings.Policy.{Policy}
 use Rattle.graph_text.specs.declared.fault.TextFault.{TextFault}
 use Rattle.graph_text.specs.declared.statement.Question.{Question}
 use Rattle.graph_text.specs.declared.gathered.Gathered.{Gathered}
@@ -14,7 +15,9 @@ use Rattle.graph_text.specs.declared.open_text.OpenText.{OpenText}
 pub record GatheredState : Type 0 where
   pub query : Option Question
   pub fragments : Option ℕ
+  pub lanes : Option ℕ
   pub cut : Option Cut
+  pub policy : Option Policy
   pub edges : List Edge
   pub nodes : List PatternNode
   pub links : List PatternLink
@@ -23,7 +26,7 @@ pub record GatheredState : Type 0 where
   pub labelled : List ℕ
 
 abbrev pub gathered_state : Gathered → GatheredState
-gathered_state g = record { query = g.query; fragments = g.fragments; cut = g.cut; edges = g.edges.items; nodes = g.nodes.items; links = g.links.items; numbers = g.numbers; labels = g.labels.items; labelled = g.labelled }
+gathered_state g = record { query = g.query; fragments = g.fragments; lanes = g.lanes; cut = g.cut; policy = g.policy; edges = g.edges.items; nodes = g.nodes.items; links = g.links.items; numbers = g.numbers; labels = g.labels.items; labelled = g.labelled }
 
 -- what is kept of the lines
 pub record LinesState : Type 0 where

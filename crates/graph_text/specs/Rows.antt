@@ -1,15 +1,16 @@
 -- What a worked input is read as.
-use Rattle.std.specs.Prelude.{[], ◌∷◌}
+use Rattle.std.specs.Prelude.{ℕ, [], ◌∷◌}
 use Rattle.graph_core.specs.declared.query.Query.TheVariants as query
 use Rattle.graph_core.specs.declared.job.Job.{Job}
 use Rattle.graph_core.specs.declared.settings.Cut.TheVariants as cut
+use Rattle.graph_core.specs.declared.settings.Policy.{Policy}
 use Rattle.graph_core.specs.declared.settings.Policy.TheVariants as policy
 use Rattle.graph_core.specs.declared.settings.Settings.{Settings}
 use Rattle.graph_core.specs.Rows.{edge_of}
 
 -- the settings where no line gives one
 abbrev pub unset : Settings
-unset = record { fragments = 4; lanes = 1; cut = cut.Hash; policy = policy.Ap; snapshot = 0 }
+unset = record { fragments = 4; lanes = 2; cut = cut.Hash; policy = policy.Aap 4 2; snapshot = 0 }
 
 -- distances on three vertices, with a detour that is shorter
 abbrev pub detour_job : Job
@@ -39,12 +40,21 @@ labelled_job =
     record {
       graph = record { vertices = (2, 9) ∷ (3, 0) ∷ (5, 0) ∷ (8, 1) ∷ []; edges = edge_of 1 0 1 ∷ edge_of 2 3 4 ∷ [] };
       query = query.Dist 3;
-      settings = record { fragments = 2; lanes = 1; cut = cut.Range; policy = policy.Ap; snapshot = 0 };
+      settings = record { fragments = 2; lanes = 2; cut = cut.Range; policy = policy.Aap 4 2; snapshot = 0 };
     }
 
 -- labels on no vertices
 abbrev pub empty_job : Job
 empty_job = record { graph = record { vertices = []; edges = [] }; query = query.Label; settings = unset }
+
+-- labels on no vertices, by so many lanes under a policy
+abbrev pub empty_under : ℕ → Policy → Job
+empty_under lanes p =
+    record {
+      graph = record { vertices = []; edges = [] };
+      query = query.Label;
+      settings = record { fragments = 4; lanes = lanes; cut = cut.Hash; policy = p; snapshot = 0 };
+    }
 
 -- the simulation of two nodes that link to each other
 abbrev pub cycle_job : Job

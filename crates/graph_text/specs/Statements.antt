@@ -3,11 +3,12 @@ use Rattle.std.specs.Prelude.{ℕ, ◌+◌, ◌-◌, ◌^◌, ◌==◌, Bool, fa
 use Rattle.std.specs.List.{list_all}
 use Rattle.grape_port.specs.Decimal.{is_digit, number_of}
 use Rattle.graph_core.specs.declared.settings.Cut.TheVariants as cut
+use Rattle.graph_core.specs.declared.settings.Policy.TheVariants as policy
 use Rattle.graph_text.specs.declared.fault.Why.{Why}
 use Rattle.graph_text.specs.declared.fault.Why.TheVariants as causes
 use Rattle.graph_text.specs.declared.statement.Question.TheVariants.{Distances, Labels, Reaches, Simulation}
 use Rattle.graph_text.specs.declared.statement.Statement.{Statement}
-use Rattle.graph_text.specs.declared.statement.Statement.TheVariants.{Nothing, Joins, Vertex, Asks, Node, Link, Fragments, Cuts}
+use Rattle.graph_text.specs.declared.statement.Statement.TheVariants.{Nothing, Joins, Vertex, Asks, Node, Link, Fragments, Lanes, Cuts, Follows}
 
 -- the numbers from the first to the second one
 pub record Range : Type 0 where
@@ -28,6 +29,18 @@ node_number = record { low = 0; high = 63 }
 -- how many fragments there may be
 abbrev pub fragment_count : Range
 fragment_count = record { low = 1; high = 64 }
+
+-- how many lanes there may be
+abbrev pub lane_count : Range
+lane_count = record { low = 1; high = 16 }
+
+-- how many rounds a policy may let a fragment run ahead
+abbrev pub rounds_ahead : Range
+rounds_ahead = record { low = 0; high = 1000000 }
+
+-- up to how many batches a policy may let mail gather
+abbrev pub batch_count : Range
+batch_count = record { low = 1; high = 1000000 }
 
 -- the numbers that the words are, if each is one
 abbrev pub cons_number : Option ℕ → Option (List ℕ) → Option (List ℕ)
@@ -89,13 +102,14 @@ edge_form =
     }
 
 -- the forms that the first word names alone: a vertex with its label, which is 0 where it is left out, a node of the
--- pattern with its label, a link from node to node, and a count of fragments
+-- pattern with its label, a link from node to node, a count of fragments, and one of lanes
 abbrev pub one_word_forms : List Form
 one_word_forms =
     record { keyword = codes "v"; ranges = word32 ∷ word32 ∷ []; says = λ ns. Vertex (first ns) (second ns); last = Some (codes "0") }
     ∷ record { keyword = codes "node"; ranges = node_number ∷ word32 ∷ []; says = λ ns. Node (record { number = first ns; label = second ns }); last = None }
     ∷ record { keyword = codes "link"; ranges = node_number ∷ node_number ∷ []; says = λ ns. Link (record { from = first ns; to = second ns }); last = None }
     ∷ record { keyword = codes "fragments"; ranges = fragment_count ∷ []; says = λ ns. Fragments (first ns); last = None }
+    ∷ record { keyword = codes "lanes"; ranges = lane_count ∷ []; says = λ ns. Lanes (first ns); last = None }
     ∷ []
 
 -- the forms that the word behind `query` names
@@ -114,11 +128,21 @@ cut_forms =
     ∷ record { keyword = codes "hash"; ranges = []; says = λ ns. Cuts cut.Hash; last = None }
     ∷ []
 
+-- the forms that the word behind `policy` names
+abbrev pub policy_forms : List Form
+policy_forms =
+    record { keyword = codes "bsp"; ranges = []; says = λ ns. Follows policy.Bsp; last = None }
+    ∷ record { keyword = codes "ap"; ranges = []; says = λ ns. Follows policy.Ap; last = None }
+    ∷ record { keyword = codes "ssp"; ranges = rounds_ahead ∷ []; says = λ ns. Follows (policy.Ssp (first ns)); last = None }
+    ∷ record { keyword = codes "aap"; ranges = rounds_ahead ∷ batch_count ∷ []; says = λ ns. Follows (policy.Aap (first ns) (second ns)); last = None }
+    ∷ []
+
 -- the forms of the second word, behind a first word that needs one
 abbrev pub second_word_forms : List ℕ → Option (List Form)
 second_word_forms word =
     if bytes_eq word (codes "query") then Some query_forms
     else if bytes_eq word (codes "cut") then Some cut_forms
+    else if bytes_eq word (codes "policy") then Some policy_forms
     else None
 
 -- what the words say by the form that their first word names

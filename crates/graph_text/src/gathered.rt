@@ -28,12 +28,20 @@ const MAX_LINKS: usize = 4_096;
 /// The count of fragments where no line gives one.
 const DEFAULT_FRAGMENTS: u32 = 4;
 
+/// The count of lanes where no line gives one.
+const DEFAULT_LANES: u32 = 2;
+
+/// The policy where no line gives one.
+const DEFAULT_POLICY: Policy = Policy::Aap { c: 4, l: 2 };
+
 /// What the lines so far have said.
 #[derive(Drop)]
 pub(crate) struct Gathered {
     query: Option<Question>,
     fragments: Option<u32>,
+    lanes: Option<u32>,
     cut: Option<Cut>,
+    policy: Option<Policy>,
     /// In the order of their lines, by vertex numbers.
     edges: Vec<Edge>,
     /// In the order of their lines, each number once.
@@ -56,7 +64,9 @@ impl Gathered {
         Gathered {
             query: None,
             fragments: None,
+            lanes: None,
             cut: None,
+            policy: None,
             edges: Vec::new(alloc),
             nodes: Vec::new(alloc),
             links: Vec::new(alloc),
@@ -79,7 +89,9 @@ impl Gathered {
             Statement::Node(node) => self.add_node(line, node),
             Statement::Link(link) => self.add_link(line, link),
             Statement::Fragments(count) => keep_once(&mut self.fragments, count, line),
+            Statement::Lanes(count) => keep_once(&mut self.lanes, count, line),
             Statement::Cuts(cut) => keep_once(&mut self.cut, cut, line),
+            Statement::Follows(policy) => keep_once(&mut self.policy, policy, line),
         }
     }
 
@@ -211,9 +223,9 @@ impl Gathered {
     {
         Settings {
             fragments: self.fragments.unwrap_or(DEFAULT_FRAGMENTS),
-            lanes: 1,
+            lanes: self.lanes.unwrap_or(DEFAULT_LANES),
             cut: self.cut.unwrap_or(Cut::Hash),
-            policy: Policy::Ap,
+            policy: self.policy.unwrap_or(DEFAULT_POLICY),
             snapshot: 0,
         }
     }

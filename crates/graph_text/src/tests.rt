@@ -36,7 +36,7 @@ fn bad_table() -> [(&'static [u8], u64, Why); 21] {
     [
         (b"hello", 1, Why::Word),
         (b"query foo", 1, Why::Word),
-        (b"query\tdist 0\nlanes 2\n", 2, Why::Word),
+        (b"query\tdist 0\nsnapshot 2\n", 2, Why::Word),
         (b"-1 2", 1, Why::Word),
         (b"query", 1, Why::Count),
         (b"query dist", 1, Why::Count),
@@ -109,6 +109,65 @@ fn bad_settings() -> [(&'static [u8], u64, Why); 24] {
         (b"# no cut\ncut range\r\n\ncut hash\r\n", 4, Why::Twice),
         (b"cuts range", 1, Why::Word),
         (b"cut range\nfragments 2\n", 3, Why::NoQuery),
+    ]
+}
+
+fn bad_lanes() -> [(&'static [u8], u64, Why); 15] {
+    [
+        (b"lane 2", 1, Why::Word),
+        (b"Lanes 2", 1, Why::Word),
+        (b"lanes", 1, Why::Count),
+        (b"lanes 2 2", 1, Why::Count),
+        (b"lanes x 2", 1, Why::Count),
+        (b"lanes x", 1, Why::Number),
+        (b"lanes 18446744073709551616", 1, Why::Number),
+        (b"lanes 0", 1, Why::Range),
+        (b"query label\nlanes 17\n", 2, Why::Range),
+        (b"lanes 4294967298", 1, Why::Range),
+        (b"lanes 1\nlanes 1", 2, Why::Twice),
+        (b"lanes 16\nfragments 2\nlanes 2\nhello\n", 3, Why::Twice),
+        (b"lanes 2\nlanes 17\nlanes 2", 2, Why::Range),
+        (b"lanes 3\nfragments 3\n", 3, Why::NoQuery),
+        (b"snapshot 0", 1, Why::Word),
+    ]
+}
+
+fn bad_policies() -> [(&'static [u8], u64, Why); 34] {
+    [
+        (b"Policy ap", 1, Why::Word),
+        (b"bsp", 1, Why::Word),
+        (b"policy", 1, Why::Count),
+        (b"policy\t\r\n", 1, Why::Count),
+        (b"policy foo", 1, Why::Word),
+        (b"policy foo 1 2 3", 1, Why::Word),
+        (b"policy 4", 1, Why::Word),
+        (b"policy AP", 1, Why::Word),
+        (b"policy aaps 4 2", 1, Why::Word),
+        (b"policy bsp 0", 1, Why::Count),
+        (b"policy ap 3", 1, Why::Count),
+        (b"policy ap x", 1, Why::Count),
+        (b"policy ssp", 1, Why::Count),
+        (b"policy ssp 1 2", 1, Why::Count),
+        (b"policy ssp 1000001 2", 1, Why::Count),
+        (b"policy ssp c", 1, Why::Number),
+        (b"policy ssp -1", 1, Why::Number),
+        (b"policy ssp 1000001", 1, Why::Range),
+        (b"policy ssp 4294967296", 1, Why::Range),
+        (b"policy aap", 1, Why::Count),
+        (b"policy aap 4", 1, Why::Count),
+        (b"policy aap 4 2 1", 1, Why::Count),
+        (b"policy aap 4 l", 1, Why::Number),
+        (b"policy aap 1000001 l", 1, Why::Number),
+        (b"policy aap c 0", 1, Why::Number),
+        (b"policy aap 4 0", 1, Why::Range),
+        (b"policy aap 4 1000001", 1, Why::Range),
+        (b"query label\npolicy aap 1000001 2\n", 2, Why::Range),
+        (b"policy aap 4294967300 2", 1, Why::Range),
+        (b"policy ap\npolicy ap\n", 2, Why::Twice),
+        (b"policy bsp\n1 2\npolicy aap 4 2\nhello", 3, Why::Twice),
+        (b"policy ssp 1\npolicy ssp 2", 2, Why::Twice),
+        (b"policy aap 4 2\npolicy aap 4 0\npolicy bsp", 2, Why::Range),
+        (b"policy aap 4 2\nlanes 2\ncut hash\n", 4, Why::NoQuery),
     ]
 }
 
@@ -189,6 +248,8 @@ fn bad_lines(rt: HostRuntime) {
     check_refused(&rt, rt.alloc(), &bad_table());
     check_refused(&rt, rt.alloc(), &bad_queries());
     check_refused(&rt, rt.alloc(), &bad_settings());
+    check_refused(&rt, rt.alloc(), &bad_lanes());
+    check_refused(&rt, rt.alloc(), &bad_policies());
     check_refused(&rt, rt.alloc(), &bad_vertices());
     check_refused(&rt, rt.alloc(), &bad_patterns());
 }
@@ -216,7 +277,9 @@ fn question_of(query: &Query) -> Asked {
 struct Wanted {
     query: Asked,
     fragments: u32,
+    lanes: u32,
     cut: Cut,
+    policy: Policy,
     vertices: &'static [(u32, u32)],
     edges: &'static [(u32, u32, u32)],
 }
@@ -225,7 +288,9 @@ fn job_table() -> [(&'static [u8], Wanted); 9] {
     let plain = Wanted {
         query: Asked::Dist(0),
         fragments: 4,
+        lanes: 2,
         cut: Cut::Hash,
+        policy: Policy::Aap { c: 4, l: 2 },
         vertices: &[(0, 0), (11342, 0), (824020, 0)],
         edges: &[(0, 1, 1), (0, 2, 1), (1, 0, 1)],
     };
@@ -304,6 +369,7 @@ fn job_table() -> [(&'static [u8], Wanted); 9] {
                     (4294967295, 0),
                 ],
                 edges: &[(2, 3, 1), (3, 1, 2)],
+                ..plain
             },
         ),
         (
@@ -333,8 +399,8 @@ fn check_job(rt: &impl Abort, alloc: Global, job: &Job, want: &Wanted) -> Result
     assert_eq!(rt; question_of(&job.query), want.query);
     assert_eq!(rt; job.settings.fragments, want.fragments);
     assert_eq!(rt; job.settings.cut, want.cut);
-    assert_eq!(rt; job.settings.lanes, 1);
-    assert_eq!(rt; job.settings.policy, Policy::Ap);
+    assert_eq!(rt; job.settings.lanes, want.lanes);
+    assert_eq!(rt; job.settings.policy, want.policy);
     assert_eq!(rt; job.settings.snapshot, 0);
     let vertices: Vec<(u32, u32)> = (0..job.graph.count())
         .map(|index| (job.graph.id(index), job.graph.label(index)))
@@ -347,6 +413,67 @@ fn check_job(rt: &impl Abort, alloc: Global, job: &Job, want: &Wanted) -> Result
         .map(|edge| (edge.from, edge.to, edge.weight))
         .collect(alloc)?;
     assert_eq!(rt; edges.as_slice(), want.edges);
+    Ok(())
+}
+
+/// Lines that give the lanes or the policy, and which these are.
+fn policy_table() -> [(&'static [u8], u32, Policy); 12] {
+    let missing = Policy::Aap { c: 4, l: 2 };
+    [
+        (b"", 2, missing),
+        (b"lanes 1", 1, missing),
+        (b"lanes 16\r\n", 16, missing),
+        (b"policy bsp", 2, Policy::Bsp),
+        (
+            b"policy ap\nlanes 3\nfragments 2\ncut range\n",
+            3,
+            Policy::Ap,
+        ),
+        (b"policy ssp 0", 2, Policy::Ssp { c: 0 }),
+        (
+            b" policy\tssp  1000000 \nlanes 016",
+            16,
+            Policy::Ssp { c: 1_000_000 },
+        ),
+        (b"policy aap 0 1", 2, Policy::Aap { c: 0, l: 1 }),
+        (
+            b"policy aap 1000000 1",
+            2,
+            Policy::Aap { c: 1_000_000, l: 1 },
+        ),
+        (
+            b"policy aap 0 1000000",
+            2,
+            Policy::Aap { c: 0, l: 1_000_000 },
+        ),
+        (
+            b"lanes 8\npolicy aap 3 5\r\n",
+            8,
+            Policy::Aap { c: 3, l: 5 },
+        ),
+        (
+            b"# policy bsp\npolicy aap 5 3",
+            2,
+            Policy::Aap { c: 5, l: 3 },
+        ),
+    ]
+}
+
+#[test]
+fn policies(rt: HostRuntime) -> Result<(), Fail> {
+    for (lines, lanes, policy) in policy_table() {
+        for size in [1usize, 3, 4096] {
+            let mut reader = LineReader::new(rt.alloc())?;
+            assert_eq!(rt; reader.feed(b"query label\n"), Ok(()));
+            assert_eq!(rt; feed(&mut reader, lines, size), Ok(()));
+            let Ok(job) = reader.finish() else {
+                panic!(rt; "no job of {lines:?} in pieces of {size}")
+            };
+            assert_eq!(rt; job.settings.lanes, lanes);
+            assert_eq!(rt; job.settings.policy, policy);
+            assert_eq!(rt; job.settings.snapshot, 0);
+        }
+    }
     Ok(())
 }
 

@@ -3,7 +3,8 @@ ghost use Rattle.graph_text.specs.Lines.{lines_of, before_line_feed, HasNoLineFe
 
 use crate::fault::{TextFault, Why};
 use crate::gathered::Gathered;
-use crate::statement::{Statement, read_statement};
+use crate::line_words::read_statement;
+use crate::statement::Statement;
 use graph_core::Job;
 use std::alloc::Global;
 

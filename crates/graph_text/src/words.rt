@@ -1,6 +1,11 @@
-ghost use Rattle.std.specs.Prelude.{◌≡◌, ◌≤◌, ◌∷◌, [], length, MatchOption, not};
+ghost use Rattle.std.specs.Prelude.{◌≡◌, ℕ, ◌==◌, ◌≤◌, ◌∷◌, [], false, length, MatchOption, Ok, Err, IfOk, IfErr, not};
 ghost use Rattle.std.specs.List.{prefix_len, position_or_len};
+ghost use Rattle.graph_text.specs.declared.statement.Statement.{Statement as Said};
 ghost use Rattle.graph_text.specs.Lines.{is_blank, words_in, without_last, before_line_feed};
+ghost use Rattle.graph_text.specs.Statements.{first, made_of};
+
+use crate::fault::Why;
+use grape_port::read_number;
 
 /// A space or a tab.
 fn is_blank(byte: u8) -> bool
@@ -45,6 +50,44 @@ pub fn split_word(text: &[u8]) -> Option<(&[u8], &[u8])>
     }
     let length = word_length(from_word);
     Some(from_word.split_at(length))
+}
+
+/// The one word of a text, or `None` where there is none or more than one.
+pub fn only_word(text: &[u8]) -> Option<&[u8]>
+    ensures { MatchOption result ((length (words_in text.now) == 1) ≡ false) (λ word. words_in text.now ≡ word.now ∷ []) }
+{
+    let (word, rest) = split_word(text)?;
+    match split_word(rest) {
+        None => Some(word),
+        Some(_) => None,
+    }
+}
+
+/// The two words of a text, or `None` where there are fewer or more.
+pub fn two_words(text: &[u8]) -> Option<(&[u8], &[u8])>
+    ensures { MatchOption result ((length (words_in text.now) == 2) ≡ false) (λ words. words_in text.now ≡ words.0.now ∷ words.1.now ∷ []) }
+{
+    let (first, rest) = split_word(text)?;
+    let second = only_word(rest)?;
+    Some((first, second))
+}
+
+/// The number from `low` to `high` that is the one word of a text; or the first cause why there is none: another count of
+/// words, a word that is no number, a number that is out of range.
+pub fn only_number(text: &[u8], low: u32, high: u32) -> Result<u32, Why>
+    ensures ok { (says : ℕ → Said) → IfOk result (λ number. made_of (record { low = low; high = high } ∷ []) (λ ns. says (first ns)) (words_in text.now) ≡ Ok (says number)) }
+    ensures err { (says : ℕ → Said) → IfErr result (λ why. made_of (record { low = low; high = high } ∷ []) (λ ns. says (first ns)) (words_in text.now) ≡ Err why) }
+{
+    let Some(word) = only_word(text) else {
+        return Err(Why::Count);
+    };
+    let Some(number) = read_number(word) else {
+        return Err(Why::Number);
+    };
+    match u32::try_from(number) {
+        Ok(number) if low <= number && number <= high => Ok(number),
+        _ => Err(Why::Range),
+    }
 }
 
 /// The text without its last byte, if that is this byte.

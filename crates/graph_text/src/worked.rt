@@ -1,8 +1,9 @@
 ghost use Rattle.std.specs.Prelude.{◌≡◌, [], codes, replicate};
 ghost use Rattle.graph_text.specs.Input.{input_of, shown_of, bad};
-ghost use Rattle.graph_text.specs.Rows.{detour_job, to_and_fro, alone_job, labelled_job, empty_job, download_job, cycle_job, unused_job};
+ghost use Rattle.graph_text.specs.Rows.{detour_job, to_and_fro, alone_job, labelled_job, empty_job, empty_under, download_job, cycle_job, unused_job};
 
 use crate::fault::Why;
+use graph_core::Policy;
 
 /// Worked inputs are these jobs, and a bad line is found with its number and cause.
 pub fn rows()
@@ -29,7 +30,25 @@ pub fn rows()
     ensures other_query { input_of (codes "query label\nquery reach 1\n") ≡ Err (bad 2 Why.Twice) }
     ensures reach_source { input_of (codes "query reach 9\n1 2\n") ≡ Err (bad 3 Why.NoSource) }
     ensures download { input_of (codes "# Directed graph\r\n# FromNodeId\tToNodeId\r\nquery reach 0\r\n0\t11342\r\n0\t824020\r\n11342\t0") ≡ Ok download_job }
-    ensures unbuilt_keyword { input_of (codes "lanes 2") ≡ Err (bad 1 Why.Word) }
+    ensures unbuilt_keyword { input_of (codes "snapshot 2") ≡ Err (bad 1 Why.Word) }
+    ensures lanes { input_of (codes "query label\nlanes 16\n") ≡ Ok (empty_under 16 (Policy.Aap 4 2)) }
+    ensures lanes_count { input_of (codes "lanes") ≡ Err (bad 1 Why.Count) }
+    ensures no_lanes { input_of (codes "lanes 0") ≡ Err (bad 1 Why.Range) }
+    ensures lanes_range { input_of (codes "lanes 17") ≡ Err (bad 1 Why.Range) }
+    ensures second_lanes { input_of (codes "lanes 1\nlanes 1\n") ≡ Err (bad 2 Why.Twice) }
+    ensures bsp { input_of (codes "policy bsp\nquery label\n") ≡ Ok (empty_under 2 Policy.Bsp) }
+    ensures ap { input_of (codes "lanes 1\npolicy ap\nquery label\n") ≡ Ok (empty_under 1 Policy.Ap) }
+    ensures ssp { input_of (codes "policy ssp 1000000\nquery label\n") ≡ Ok (empty_under 2 (Policy.Ssp 1000000)) }
+    ensures aap { input_of (codes "policy aap 0 1000000\nquery label\n") ≡ Ok (empty_under 2 (Policy.Aap 0 1000000)) }
+    ensures policy_word { input_of (codes "policy foo") ≡ Err (bad 1 Why.Word) }
+    ensures policy_count { input_of (codes "policy") ≡ Err (bad 1 Why.Count) }
+    ensures ap_count { input_of (codes "policy ap 3") ≡ Err (bad 1 Why.Count) }
+    ensures ssp_count { input_of (codes "policy ssp") ≡ Err (bad 1 Why.Count) }
+    ensures ssp_range { input_of (codes "policy ssp 1000001") ≡ Err (bad 1 Why.Range) }
+    ensures aap_count { input_of (codes "policy aap 4") ≡ Err (bad 1 Why.Count) }
+    ensures aap_number { input_of (codes "policy aap 1000001 x") ≡ Err (bad 1 Why.Number) }
+    ensures aap_range { input_of (codes "policy aap 4 0") ≡ Err (bad 1 Why.Range) }
+    ensures second_policy { input_of (codes "policy ap\npolicy ssp 1\n") ≡ Err (bad 2 Why.Twice) }
     ensures fragments { input_of (codes "fragments 65") ≡ Err (bad 1 Why.Range) }
     ensures no_fragments { input_of (codes "fragments 0") ≡ Err (bad 1 Why.Range) }
     ensures fragments_count { input_of (codes "fragments") ≡ Err (bad 1 Why.Count) }

@@ -1,11 +1,11 @@
 -- The search has come to the first of these numbers without success.
 use Rattle.std.proofs.Common.{◌≡◌, ◌-◌}
 use Rattle.std.specs.List.{range_with_len}
-use Rattle.grape_hub.specs.Desks.{holds_at, first_where}
-use Rattle.grape_hub.specs.Kinds.{test_of}
+use Rattle.grape_hub.specs.Kinds.{admits, holds_at, first_where}
 use Rattle.grape_hub.proofs.choice.first_between.Given as goal
 
 abbrev pub invariant-desks : goal.invariant-desks
 invariant-desks l = record {
-  same : first_where (holds_at (test_of l.kind) l.desks) (range_with_len l.fn.from (l.to - l.fn.from)) ≡ first_where (holds_at (test_of l.kind) l.desks) (range_with_len l.worker (l.to - l.worker));
+  same : first_where (holds_at (admits l.kind l.sight l.probe) l.desks) (range_with_len l.fn.from (l.to - l.fn.from))
+      ≡ first_where (holds_at (admits l.kind l.sight l.probe) l.desks) (range_with_len l.worker (l.to - l.worker));
 }

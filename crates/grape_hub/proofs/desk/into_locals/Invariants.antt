@@ -1,4 +1,4 @@
-use Rattle.std.proofs.Common.{◌≡◌, ◌≤◌, ◌+◌, List, ◌++◌, length}
+use Rattle.std.proofs.Common.{◌≤◌, ◌+◌, List, ◌++◌, length}
 use Rattle.std.specs.Vec.{vec_capacity}
 use Rattle.pie_core.specs.Locals.{LocalValues}
 use Rattle.grape_hub.specs.Desks.{AreHere, HaveLocals}

@@ -1,4 +1,3 @@
-use Rattle.std.proofs.Common.{rules}
 use Rattle.grape_hub.proofs.Calm.{calm_is_free, calm_at_beginning, calm_after_turn, calm_after_other}
 use Rattle.grape_hub.proofs.laws.turns_are_calm.Goals as goal
 

@@ -3,16 +3,16 @@ use Rattle.grape_hub.proofs.Mailing.{none_mailed, mailed_more, mailed_counts, ma
 use Rattle.grape_hub.proofs.posting.post_along.Goals as goal
 
 pub row-init : goal.row-init
-row-init c = none_mailed _ _ _ (λ j. refl)
+row-init c = none_mailed _ _ _ _ (λ j. refl)
 
 pub post-requires-clause-lead : goal.post-requires-clause-lead
 post-requires-clause-lead c =
-    leads_at c.row.desks c.args.desks.now c.args.row.now c.row.route-index _ c.requires.lead c.row-test.true (mailed_counts _ _ _ _ _ c.row.invariant)
+    leads_at c.row.desks c.args.desks.now c.args.row.now c.row.route-index _ c.requires.lead c.row-test.true (mailed_counts _ _ _ _ _ _ c.row.invariant)
 
-pub post-requires-clause-room : goal.post-requires-clause-room
-post-requires-clause-room c = mailed_can_begin _ _ _ _ _ c.row.invariant c.requires.few c.requires.room
+pub post-requires-clause-receive : goal.post-requires-clause-receive
+post-requires-clause-receive c = mailed_can_begin c.args.sender _ _ _ _ _ c.row.invariant c.requires.few c.requires.receive
 
 pub row-preserved : goal.row-preserved
 row-preserved c =
-    mailed_more _ _ _ _ _ _ _ _ _ c.row.invariant c.requires.few c.post.ensures.desks c.post.ensures.begun
+    mailed_more c.args.sender _ _ _ _ _ _ _ _ _ c.row.invariant c.requires.few c.post.ensures.desks c.post.ensures.begun
     (λ k. along_more k c.args.value c.args.row.now c.row.route-index _ c.row-test.true)

@@ -1,22 +1,17 @@
-use Rattle.std.proofs.Common.{rules, ◌≡◌, ◌<◌, ◌≤◌, ◌+◌, true, false, ℕ, Bool, List, [], ◌∷◌, ◌++◌, length, length-set, slice_index_or, slice_set, slice_get, count_by, Some, nat_lt, if◌then◌else◌, refl, sym, ◌∙◌, ap, subst, arith, IsTrue}
-use Rattle.std.specs.Vec.{vec_len, vec_capacity}
-use Rattle.graph_core.specs.declared.job.Job.{Job}
-use Rattle.graph_core.specs.declared.fragment.Route.{Route}
+use Rattle.std.proofs.Common.{◌≡◌, ◌+◌, true, false, ℕ, List, [], ◌∷◌, ◌++◌, length, length-set, slice_set, count_by, nat_lt, if◌then◌else◌, refl, sym, ◌∙◌, ap, subst, arith}
 use Rattle.grape_event.specs.declared.event.Event.{Event}
 use Rattle.grape_event.specs.declared.event.Event.TheVariants.{Take}
 use Rattle.grape_event.specs.JournalList.{JournalList}
-use Rattle.message_buffer.specs.Buffers.{emptied}
-use Rattle.pie_core.specs.Locals.{LocalValues}
-use Rattle.message_buffer.specs.HandValues.{HandValues}
-use Rattle.base_machine.specs.Machine.{worker_at, is_running, is_fresh}
-use Rattle.legal_journal.specs.Legal.{is_admitted, worker_count}
+use Rattle.base_machine.specs.Machine.{worker_at, is_running}
+use Rattle.legal_journal.specs.Legal.{is_admitted}
 use Rattle.grape_hub.specs.declared.desk.Desk.{Desk}
-use Rattle.grape_hub.specs.declared.desk.Seat.TheVariants.{Here, Out}
-use Rattle.grape_hub.specs.declared.work.Next.TheVariants.{Took, NoMemory}
+use Rattle.grape_hub.specs.declared.work.Next.TheVariants.{Took}
 use Rattle.grape_hub.specs.HubValues.{HubValues}
-use Rattle.grape_hub.specs.States.{machine, state_of, workers_of, works_out, IsHub}
-use Rattle.grape_hub.specs.Desks.{TablesFit, HandFits, TakesFrom, is_out}
-use Rattle.grape_hub.specs.Calls.{Appended, TakesWorker, IsWork}
+use Rattle.stop_probe.specs.ProbeValues.{ProbeValues}
+use Rattle.stop_probe.specs.Journals.{after_event}
+use Rattle.grape_hub.specs.States.{machine, beginning, state_of, workers_of, IsHub}
+use Rattle.grape_hub.specs.Desks.{TablesFit, is_out}
+use Rattle.grape_hub.specs.Calls.{Appended, TakesWorker}
 use Rattle.grape_hub.proofs.Results.{at_ok, at_err}
 use Rattle.grape_hub.proofs.Hubs.{few_workers, out_is}
 use Rattle.grape_hub.proofs.Takings.{found_at, worker_in_range, hand_fits, taken_hub, taken_tables, taken_work, taken_seat}
@@ -30,9 +25,10 @@ invariant_of-self g c =
     let k = c.self.invariant in (
       k.0,
       subst (λ (j : JournalList). IsHub (h j)) (sym e) k.1,
-      subst (λ (j : JournalList). TablesFit (machine (h j)) (state_of (h j)) (g.P.Pie.counters_for c.self.inside.job) c.self.inside.routes.items c.self.inside.desks.items c.self.inside.turn) (sym e) k.2,
-      k.3,
+      subst (λ (j : JournalList). TablesFit (machine (h j)) (state_of (h j)) (g.P.Pie.counters_for c.self.inside.job) c.self.inside.routes.items c.self.inside.desks.items c.self.inside.probe c.self.inside.turn) (sym e) k.2,
+      subst (λ (j : JournalList). c.self.inside.start ≡ beginning (h j)) (sym e) k.3,
       k.4,
+      k.5,
     )
 
 -- src/hub.rt:128:36
@@ -54,6 +50,14 @@ take-fresh-requires g c =
     let n = c.self.invariant.2.count in
     let here = found_at c.self.inside.desks.items c.args.worker c.index_mut.result.now (omega (arith, l, n)) c.index_mut.ensures.value in
     hand_fits (machine old) (state_of old) old.counters c.args.worker c.index_mut.result.now idle (c.self.invariant.2.fit c.args.worker c.index_mut.result.now here)
+
+pub hear-requires : goal.hear-requires
+hear-requires g c =
+    let old : HubValues = record { job = c.self.inside.job; counters = g.P.Pie.counters_for c.self.inside.job; journal = c.self.inside.journal } in
+    let a = subst (λ (h : HubValues). is_admitted (machine h) (state_of h) (Take c.args.worker c.args.lane) ≡ true) (sym c.self.view_is) c.requires.admitted in
+    let l = worker_in_range (machine old) (state_of old) c.args.worker _ _ a in
+    let n = ap (λ (p : ProbeValues). p.workers) c.self.invariant.2.is_probe in
+    omega (arith, l, n)
 
 -- src/hub.rt:130:21
 pub following-self-inside-requires-clause-worker :
@@ -88,17 +92,19 @@ invariant_of-self-2 g c =
     let more : Appended old (Take c.args.worker c.args.lane) new = (refl, refl, c.push.ensures.events ∙ ap (λ (q : List Event). q ++ Take c.args.worker c.args.lane ∷ []) c.reserve.ensures.events) in
     let room = at_ok c.reserve.result (sym c.is_err.ensures.value ∙ c.if-is_err.false) c.reserve.ensures.room in
     let spare = c.push.ensures.spare in
-    let out = c.works_out-out.ensures ∙ (ap {B = ℕ} (λ (q : List Desk). count_by is_out q) c.deref.ensures.value ∙ out_is (machine old) (state_of old) old.counters c.self.inside.routes.items c.self.inside.desks.items c.self.inside.turn c.self.invariant.2) in
+    let out = c.works_out-out.ensures ∙ (ap {B = ℕ} (λ (q : List Desk). count_by is_out q) c.deref.ensures.value ∙ out_is (machine old) (state_of old) old.counters c.self.inside.routes.items c.self.inside.desks.items c.self.inside.probe c.self.inside.turn c.self.invariant.2) in
     let e = c.len-count.ensures in
     let long : c.len-count.result ≡ length c.self.inside.desks.items = omega (arith, e) in
     let seats = taken_seat c.index_mut.result.now c.args.lane c.len-place.result (c.take-fresh.result.0, c.take-fresh.result.1, c.take-fresh.result.2) c.take-fresh.new.self c.take-fresh.ensures in
-    let t = taken_tables old new c.self.inside.routes.items c.self.inside.desks.items c.self.inside.turn c.args.worker c.args.lane c.index_mut.result.now c.self.invariant.1 c.self.invariant.2 here idle more c.len-place.result c.following-self-inside.result
+    let t = taken_tables old new c.self.inside.routes.items c.self.inside.desks.items c.self.inside.probe c.self.inside.turn c.args.worker c.args.lane c.index_mut.result.now c.self.invariant.1 c.self.invariant.2 here idle more c.len-place.result c.following-self-inside.result
     (c.len-place.ensures ∙ ap (λ (q : List Event). length q) c.reserve.ensures.events) (c.following-self-inside.ensures ∙ ap (λ m. if nat_lt (c.args.worker + 1) m then c.args.worker + 1 else 0) long) in (
       c.self.invariant.0,
-      taken_hub old new c.self.inside.routes.items c.self.inside.desks.items c.self.inside.turn c.args.worker c.args.lane c.index_mut.result.now c.self.invariant.1 c.self.invariant.2 here idle more a (omega (arith, room, spare, out)),
-      subst (λ (x : Desk). TablesFit (machine new) (state_of new) old.counters c.self.inside.routes.items (slice_set c.self.inside.desks.items c.args.worker x) c.following-self-inside.result) (sym seats) t,
+      taken_hub old new c.self.inside.routes.items c.self.inside.desks.items c.self.inside.probe c.self.inside.turn c.args.worker c.args.lane c.index_mut.result.now c.self.invariant.1 c.self.invariant.2 here idle more a (omega (arith, room, spare, out)),
+      subst (λ (p : ProbeValues). TablesFit (machine new) (state_of new) old.counters c.self.inside.routes.items (slice_set c.self.inside.desks.items c.args.worker c.take-fresh.new.self) p c.following-self-inside.result) (sym c.hear.ensures)
+          (subst (λ (x : Desk). TablesFit (machine new) (state_of new) old.counters c.self.inside.routes.items (slice_set c.self.inside.desks.items c.args.worker x) (after_event (Take c.args.worker c.args.lane) c.self.inside.probe) c.following-self-inside.result) (sym seats) t),
       c.self.invariant.3,
-      (let m = length-set c.self.inside.desks.items c.args.worker c.take-fresh.new.self in let q = c.self.invariant.4 in omega (arith, m, q)),
+      c.self.invariant.4,
+      (let m = length-set c.self.inside.desks.items c.args.worker c.take-fresh.new.self in let q = c.self.invariant.5 in omega (arith, m, q)),
     )
 
 -- src/hub.rt:116:5
@@ -112,7 +118,7 @@ returns-clause-taken g c =
     let n = c.self.invariant.2.count in
     let here = found_at c.self.inside.desks.items c.args.worker c.index_mut.result.now (omega (arith, l, n)) c.index_mut.ensures.value in
     let more : Appended old (Take c.args.worker c.args.lane) new = (refl, refl, c.push.ensures.events ∙ ap (λ (q : List Event). q ++ Take c.args.worker c.args.lane ∷ []) c.reserve.ensures.events) in
-    let work = taken_work old new c.self.inside.routes.items c.self.inside.desks.items c.self.inside.turn c.args.worker c.args.lane c.index_mut.result.now c.self.invariant.1 c.self.invariant.2 here idle more c.len-place.result
+    let work = taken_work old new c.self.inside.routes.items c.self.inside.desks.items c.self.inside.probe c.self.inside.turn c.args.worker c.args.lane c.index_mut.result.now c.self.invariant.1 c.self.invariant.2 here idle more c.len-place.result
     (c.take-fresh.result.0, c.take-fresh.result.1, c.take-fresh.result.2) c.take-fresh.new.self (c.len-place.ensures ∙ ap (λ (q : List Event). length q) c.reserve.ensures.events) c.take-fresh.ensures in
     subst (λ (h : HubValues). TakesWorker h c.args.worker c.args.lane
     (Took (record { worker = c.args.worker; place = c.len-place.result; fresh = c.take-fresh.result.0; local = c.take-fresh.result.1; hand = c.take-fresh.result.2 })) new) c.self.view_is
@@ -131,5 +137,5 @@ returns-clause-hub g c =
     let more : Appended old (Take c.args.worker c.args.lane) new = (refl, refl, c.push.ensures.events ∙ ap (λ (q : List Event). q ++ Take c.args.worker c.args.lane ∷ []) c.reserve.ensures.events) in
     let room = at_ok c.reserve.result (sym c.is_err.ensures.value ∙ c.if-is_err.false) c.reserve.ensures.room in
     let spare = c.push.ensures.spare in
-    let out = c.works_out-out.ensures ∙ (ap {B = ℕ} (λ (q : List Desk). count_by is_out q) c.deref.ensures.value ∙ out_is (machine old) (state_of old) old.counters c.self.inside.routes.items c.self.inside.desks.items c.self.inside.turn c.self.invariant.2) in
-    taken_hub old new c.self.inside.routes.items c.self.inside.desks.items c.self.inside.turn c.args.worker c.args.lane c.index_mut.result.now c.self.invariant.1 c.self.invariant.2 here idle more a (omega (arith, room, spare, out))
+    let out = c.works_out-out.ensures ∙ (ap {B = ℕ} (λ (q : List Desk). count_by is_out q) c.deref.ensures.value ∙ out_is (machine old) (state_of old) old.counters c.self.inside.routes.items c.self.inside.desks.items c.self.inside.probe c.self.inside.turn c.self.invariant.2) in
+    taken_hub old new c.self.inside.routes.items c.self.inside.desks.items c.self.inside.probe c.self.inside.turn c.args.worker c.args.lane c.index_mut.result.now c.self.invariant.1 c.self.invariant.2 here idle more a (omega (arith, room, spare, out))

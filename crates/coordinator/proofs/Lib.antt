@@ -1,0 +1,5 @@
+pub mod Places
+pub mod Beginnings
+pub mod Turns
+pub mod Settled
+pub mod Done

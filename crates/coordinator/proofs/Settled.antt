@@ -1,0 +1,138 @@
+-- What a run tells of a hub whose journal has ended.
+use Rattle.std.proofs.Common.{◌≡◌, ℕ, zero, suc, ◌*◌, ◌<◌, refl, sym, ◌∙◌, ap, subst, arith, List, [], ◌∷◌, ◌++◌, length, map, reverse, slice_index_or, slice_get, Some, true, ◌-◌}
+use mathlib.Core.List.{reverse-cons}
+use Rattle.std.specs.List.{AllZip}
+use Rattle.std.proofs.lemmas.Bool.{false≢true}
+use Rattle.std.proofs.lemmas.List.{length-append, reverse-reverse}
+use Rattle.std.proofs.lemmas.Option.{same_Some}
+use Rattle.std.proofs.lemmas.List.FromFn.{length-map-range_with_len, get_or-map-range_with_len}
+use Rattle.circular_buffer.proofs.Places.{slice_get-last}
+use Rattle.graph_core.specs.declared.job.Job.{Job}
+use Rattle.graph_core.specs.Parts.{FragmentLists, place_count}
+use Rattle.graph_core.specs.Queries.{equations_of}
+use Rattle.graph_core.specs.Fragments.{Piece, piece_of, fragment_of, fragments_of, numbers_below, places}
+use Rattle.graph_core.proofs.Greatest.{greatest_is_there}
+use Rattle.graph_core.proofs.Lawful.{lawful}
+use Rattle.grape_event.specs.JournalList.{JournalList}
+use Rattle.grape_event.specs.declared.event.Event.{Event}
+use Rattle.grape_event.specs.declared.event.StopCause.{StopCause}
+use Rattle.grape_event.specs.declared.event.Event.TheVariants.{Take, Give, Stretch, Hold, Flag, Ask, Ack, Nack, Begin, Mark, Seal, Kept, End, Stop}
+use Rattle.pie_core.specs.Locals.{LocalValues}
+use Rattle.token_cut.specs.Parts.{SnapshotParts}
+use Rattle.base_machine.specs.Machine.{BaseState, Worker, worker_at, no_worker}
+use Rattle.legal_journal.specs.Past.{has_ended}
+use Rattle.legal_journal.specs.Legal.{IsLegal, state_at_end}
+use Rattle.answer_text.specs.Assembled.{FitParts, values_at}
+use Rattle.grape_hub.specs.HubValues.{HubValues}
+use Rattle.grape_hub.specs.States.{machine, beginning, workers_of, IsHub}
+use Rattle.grape_hub.specs.Calls.{HaveValues, HaveSizes}
+use Rattle.grape_hub.proofs.Answering.{fit}
+use Rattle.grape_hub.proofs.Hubs.{workers_are}
+use Rattle.grape_hub.proofs.Ready.{piece_is}
+use Rattle.coordinator.specs.declared.story.Story.{Story}
+use Rattle.coordinator.specs.Runs.{IsStoryOf, AreLocalsOf, LastEvent, EndsBy}
+
+-- stands for a fragment past the last
+abbrev no_lists : FragmentLists
+no_lists = record { number = 0; owned = []; mirrors = []; readings = []; readers = []; routes = [] }
+
+fit_each : (parts : List FragmentLists) (ws : BaseState) (locals : List LocalValues) → length parts ≡ length ws →
+    ((i : ℕ) → i < length ws → length (slice_index_or ws i no_worker).values ≡ place_count (slice_index_or parts i no_lists)) →
+    AllZip (λ (local : LocalValues) (w : Worker). local.values ≡ w.values) locals ws → FitParts parts locals
+fit_each [] [] [] e h a = tt
+fit_each [] [] (l ∷ ls) e h a = absurd a
+fit_each [] (w ∷ ws) ls e h a = absurd (omega (arith, e))
+fit_each (p ∷ ps) [] ls e h a = absurd (omega (arith, e))
+fit_each (p ∷ ps) (w ∷ ws) [] e h a = absurd a
+fit_each (p ∷ ps) (w ∷ ws) (l ∷ ls) e h a = (ap (λ (v : List ℕ). length v) a.0 ∙ h 0 (omega arith), fit_each ps ws ls (omega (arith, e)) (λ i k. h (suc i) (omega (arith, k))) a.1)
+
+-- the values of worker i are those of Local i
+pub same_values : (ws : BaseState) (locals : List LocalValues) → AllZip (λ (local : LocalValues) (w : Worker). local.values ≡ w.values) locals ws → (i : ℕ) → values_at locals i ≡ (slice_index_or ws i no_worker).values
+same_values [] [] a i = refl
+same_values [] (l ∷ ls) a i = absurd a
+same_values (w ∷ ws) [] a i = absurd a
+same_values (w ∷ ws) (l ∷ ls) a zero = a.0
+same_values (w ∷ ws) (l ∷ ls) a (suc i) = same_values ws ls a.1 i
+
+-- a worker has a value for each place of its fragment
+places_each : (h : HubValues) → IsHub h → (i : ℕ) → i < length (workers_of h) → length (worker_at (workers_of h) i).values ≡ place_count (fragment_of h.job i)
+places_each h hub i l =
+    let there = greatest_is_there (equations_of h.job) (lawful h.job.graph h.job.query hub.job.graph) in
+    let n = workers_are h hub in
+    let shape = ((fit h there.0 hub there.1).each i l).shape in
+    shape.values ∙ (ap (λ (q : Piece). length (places q)) (piece_is h i (omega (arith, l, n))) ∙ length-append (fragment_of h.job i).owned (fragment_of h.job i).mirrors)
+
+locals_fit : (h : HubValues) (parts : List FragmentLists) (locals : List LocalValues) → IsHub h → parts ≡ fragments_of h.job → HaveValues h locals → FitParts parts locals
+locals_fit h parts locals hub same have =
+    let n = workers_are h hub in
+    let long = ap (λ (ps : List FragmentLists). length ps) same ∙ length-map-range_with_len (fragment_of h.job) 0 h.job.settings.fragments in
+    fit_each parts (workers_of h) locals (omega (arith, n, long))
+    (λ i l. places_each h hub i l ∙ sym (ap (λ (q : FragmentLists). place_count q)
+    (ap (λ (ps : List FragmentLists). slice_index_or ps i no_lists) same ∙ get_or-map-range_with_len (fragment_of h.job) 0 h.job.settings.fragments i i no_lists (omega (arith, l, n)) (omega arith))))
+    have
+
+owned_each : (job : Job) (counters : ℕ) (is : List ℕ) (locals : List LocalValues) →
+    AllZip (λ (local : LocalValues) (piece : Piece). (length local.before ≡ length piece.owned) × (length local.counters ≡ length piece.owned * counters)) locals (map (piece_of job) is) →
+    AllZip (λ (part : FragmentLists) (local : LocalValues). length local.before ≡ length part.owned) (map (fragment_of job) is) locals
+owned_each job counters [] [] a = tt
+owned_each job counters [] (l ∷ ls) a = absurd a
+owned_each job counters (i ∷ is) [] a = absurd a
+owned_each job counters (i ∷ is) (l ∷ ls) a = (a.0.0, owned_each job counters is ls a.1)
+
+-- ---- the story
+
+-- a story has a hub's start and journal
+pub record Tells (h : HubValues) (story : Story) : Type 0 where
+  pub start : story.start ≡ beginning h
+  pub journal : story.journal ≡ h.journal
+  pub kept : story.kept.items ≡ []
+
+pub story_of : (h : HubValues) (job : Job) (story : Story) → IsHub h → h.job ≡ job → Tells h story → IsStoryOf job story
+story_of h job story hub same tells =
+    let legal =
+    subst (λ (s : SnapshotParts). IsLegal (machine h) s story.journal.events) (sym tells.start)
+    (subst (λ (j : JournalList). IsLegal (machine h) (beginning h) j.events) (sym tells.journal) hub.legal) in
+    subst (λ (j : Job). IsStoryOf j story) same (record { start = tells.start; legal = legal; kept = tells.kept })
+
+pub locals_of : (h : HubValues) (job : Job) (parts : List FragmentLists) (story : Story) (locals : List LocalValues) → IsHub h → h.job ≡ job → parts ≡ fragments_of job → Tells h story → HaveValues h locals → HaveSizes h locals →
+    AreLocalsOf job parts story locals
+locals_of h job parts story locals hub same all tells values sizes =
+    let here : parts ≡ fragments_of h.job = all ∙ ap (λ (j : Job). fragments_of j) (sym same) in
+    let owned = subst (λ (ps : List FragmentLists). AllZip (λ (part : FragmentLists) (local : LocalValues). length local.before ≡ length part.owned) ps locals) (sym here) (owned_each h.job h.counters (numbers_below h.job.settings.fragments) locals sizes) in
+    let at_end =
+    subst (λ (s : SnapshotParts). AllZip (λ (local : LocalValues) (w : Worker). local.values ≡ w.values) locals (state_at_end (machine h) s story.journal.events).workers) (sym tells.start)
+    (subst (λ (j : JournalList). AllZip (λ (local : LocalValues) (w : Worker). local.values ≡ w.values) locals (state_at_end (machine h) (beginning h) j.events).workers) (sym tells.journal) values) in
+    subst (λ (j : Job). AreLocalsOf j parts story locals) same (record { places = locals_fit h parts locals hub here values; owned = owned; values = at_end })
+
+-- ---- the last event
+
+-- what is last and no Stop is an End
+pub end_is_last : (e : Event) (journal : List Event) → LastEvent journal e → ((cause : StopCause) → e ≡ Stop cause → ⊥) → EndsBy End journal
+end_is_last (Take i k) journal last no_stop = absurd (false≢true last.1)
+end_is_last (Give i) journal last no_stop = absurd (false≢true last.1)
+end_is_last (Stretch i t) journal last no_stop = absurd (false≢true last.1)
+end_is_last (Hold i) journal last no_stop = absurd (false≢true last.1)
+end_is_last (Flag i) journal last no_stop = absurd (false≢true last.1)
+end_is_last Ask journal last no_stop = absurd (false≢true last.1)
+end_is_last (Ack i) journal last no_stop = absurd (false≢true last.1)
+end_is_last (Nack i) journal last no_stop = absurd (false≢true last.1)
+end_is_last (Begin e) journal last no_stop = absurd (false≢true last.1)
+end_is_last (Mark i) journal last no_stop = absurd (false≢true last.1)
+end_is_last (Seal e) journal last no_stop = absurd (false≢true last.1)
+end_is_last (Kept e) journal last no_stop = absurd (false≢true last.1)
+end_is_last End journal last no_stop = last.0
+end_is_last (Stop cause) journal last no_stop = absurd (no_stop cause refl)
+
+last_of : (past journal : List Event) (e : Event) → journal ≡ reverse past → Some e ≡ slice_get journal (length journal - 1) → has_ended past ≡ true → LastEvent journal e
+last_of [] journal e same at ended = absurd (false≢true ended)
+last_of (f ∷ past) journal e same at ended =
+    let whole : journal ≡ reverse past ++ f ∷ [] = same ∙ reverse-cons f past in
+    let long = ap (λ (es : List Event). length es) whole in
+    let more = length-append (reverse past) (f ∷ []) in
+    let found : slice_get journal (length journal - 1) ≡ Some f = ap (λ (es : List Event). slice_get es (length journal - 1)) whole ∙ slice_get-last (reverse past) f (length journal - 1) (omega (arith, long, more)) in
+    let is : e ≡ f = same_Some e f (at ∙ found) in
+    subst (λ (x : Event). LastEvent journal x) (sym is) ((reverse past, whole), ended)
+
+-- the event at the last place of a journal that has ended
+pub last_is : (journal : List Event) (e : Event) → Some e ≡ slice_get journal (length journal - 1) → has_ended (reverse journal) ≡ true → LastEvent journal e
+last_is journal e at ended = last_of (reverse journal) journal e (sym (reverse-reverse journal)) at ended

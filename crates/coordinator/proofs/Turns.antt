@@ -1,0 +1,141 @@
+-- One turn of the lane.
+use Rattle.std.proofs.Common.{◌≡◌, ℕ, ◌<◌, ◌⊎◌, inl, inr, Bool, true, false, MatchBool, refl, sym, ◌∙◌, ap, subst, arith, List, [], ◌∷◌, length, reverse, slice_index_or, None, length-append}
+use Rattle.std.proofs.lemmas.Bool.{false≢true, MatchBool-at_false}
+use Rattle.std.proofs.lemmas.List.{reverse-append}
+use Rattle.std.proofs.lemmas.List.FromFn.{length-map-range_with_len, get_or-map-range_with_len}
+use Rattle.graph_core.specs.declared.job.Job.{Job}
+use Rattle.graph_core.specs.Parts.{FragmentLists}
+use Rattle.graph_core.specs.Equations.{Equations}
+use Rattle.graph_core.specs.Fragments.{fragment_of, fragments_of}
+use Rattle.message_buffer.specs.HandValues.{HandValues}
+use Rattle.pie_core.specs.Locals.{LocalValues}
+use Rattle.pie_core.specs.Solutions.{lowered, local_solution}
+use Rattle.pie_core.specs.Evaluations.{MayEvaluate}
+use Rattle.grape_event.specs.declared.event.Event.{Event}
+use Rattle.grape_event.specs.declared.event.Event.TheVariants.{Take, Give, Stretch, Hold, Flag, Ask, Ack, Nack, Begin, Mark, Seal, Kept, End, Stop}
+use Rattle.grape_event.specs.declared.event.StopCause.{StopCause}
+use Rattle.grape_event.specs.Events.{is_take}
+use Rattle.legal_journal.specs.Past.{has_ended}
+use Rattle.legal_journal.specs.Choices.{is_duty, duty_choice}
+use Rattle.legal_journal.specs.Theorems.{DutiesAreExact}
+use Rattle.grape_hub.specs.declared.work.Work.{Work}
+use Rattle.grape_hub.specs.declared.work.Duty.{Duty}
+use Rattle.grape_hub.specs.declared.work.Duty.TheVariants.{Did, Sealed}
+use Rattle.grape_hub.specs.HubValues.{HubValues}
+use Rattle.grape_hub.specs.States.{machine, state_of, IsHub}
+use Rattle.grape_hub.specs.Calls.{Appended, AppendedUnlessEnded, Unchanged, ChoosesDuty, IsWork}
+use Rattle.grape_hub.specs.Theorems.{IsCalm, CalmAfterOther}
+use Rattle.grape_hub.proofs.Ready.{worker_in_range}
+
+-- the fragment of a Work is there, and is its worker's
+pub worker_has_part : (h : HubValues) (lane : ℕ) (fresh : Bool) (work : Work) (parts : List FragmentLists) → IsHub h → IsWork h lane fresh work → parts ≡ fragments_of h.job → work.worker < length parts
+worker_has_part h lane fresh work parts hub w same =
+    let l = worker_in_range h hub work.worker w.out.in_range in
+    let n = ap (λ (ps : List FragmentLists). length ps) same ∙ length-map-range_with_len (fragment_of h.job) 0 h.job.settings.fragments in
+    omega (arith, l, n)
+
+pub part_of_worker : (h : HubValues) (lane : ℕ) (fresh : Bool) (work : Work) (parts : List FragmentLists) (part : FragmentLists) → IsHub h → IsWork h lane fresh work → parts ≡ fragments_of h.job →
+    part ≡ slice_index_or parts work.worker part → part ≡ fragment_of h.job work.worker
+part_of_worker h lane fresh work parts part hub w same at =
+    at ∙ (ap (λ ps. slice_index_or ps work.worker part) same
+    ∙ get_or-map-range_with_len (fragment_of h.job) 0 h.job.settings.fragments work.worker work.worker part (worker_in_range h hub work.worker w.out.in_range) (omega arith))
+
+-- the same under other names for the equations, the fragment and the number of counters
+pub evaluates : (job : Job) (e e' : Equations) (part part' : FragmentLists) (fresh : Bool) (local : LocalValues) (n n' : ℕ) (hand : HandValues) → e' ≡ e → part' ≡ part → n' ≡ n → MayEvaluate e job part fresh local n hand →
+    MayEvaluate e' job part' fresh local n' hand
+evaluates job e e' part part' fresh local n n' hand he hp hn m =
+    subst (λ q. MayEvaluate q job part' fresh local n' hand) (sym he) (subst (λ q. MayEvaluate e job q fresh local n' hand) (sym hp) (subst (λ q. MayEvaluate e job part fresh local q hand) (sym hn) m))
+
+pub solves : (e e' : Equations) (part part' : FragmentLists) (xs hand ys : List ℕ) → e' ≡ e → part' ≡ part → ys ≡ local_solution e' part'.owned part'.mirrors (lowered e' part'.owned xs hand) →
+    ys ≡ local_solution e part.owned part.mirrors (lowered e part.owned xs hand)
+solves e e' part part' xs hand ys he hp h =
+    h ∙ (ap (λ q. local_solution q part'.owned part'.mirrors (lowered q part'.owned xs hand)) he ∙ ap (λ (q : FragmentLists). local_solution e q.owned q.mirrors (lowered e q.owned xs hand)) hp)
+
+-- ---- a journal that goes on or ends
+
+longer : (old new : HubValues) (e : Event) → Appended old e new → length old.journal.events < length new.journal.events
+longer old new e more =
+    let n = ap (λ (es : List Event). length es) more.2 in
+    let m = length-append old.journal.events (e ∷ []) in
+    omega (arith, n, m)
+
+calm_unchanged : (old new : HubValues) → Unchanged old new → IsCalm old → IsCalm new
+calm_unchanged old new same calm =
+    let Calm : Job → List Event → Type 0 = λ job events. IsCalm (record { job = job; counters = new.counters; journal = record { events = events; spare = 0 } }) in
+    subst (λ (job : Job). Calm job new.journal.events) (sym same.0) (subst (λ (es : List Event). Calm old.job es) (sym same.2) calm)
+
+-- a duty is no Take
+duty_no_take : (e : Event) → is_duty e ≡ true → is_take e ≡ false
+duty_no_take (Take i k) h = absurd (false≢true h)
+duty_no_take (Give i) h = refl
+duty_no_take (Stretch i t) h = refl
+duty_no_take (Hold i) h = refl
+duty_no_take (Flag i) h = refl
+duty_no_take Ask h = refl
+duty_no_take (Ack i) h = refl
+duty_no_take (Nack i) h = refl
+duty_no_take (Begin e) h = refl
+duty_no_take (Mark i) h = refl
+duty_no_take (Seal e) h = refl
+duty_no_take (Kept e) h = refl
+duty_no_take End h = refl
+duty_no_take (Stop c) h = refl
+
+-- what a turn leaves that adds an event
+pub record IsLonger (old new : HubValues) : Type 0 where
+  pub job : new.job ≡ old.job
+  pub counters : new.counters ≡ old.counters
+  pub calm : IsCalm new
+  pub longer : length old.journal.events < length new.journal.events
+
+pub duty_done : DutiesAreExact → CalmAfterOther → (old new : HubValues) (r : Duty) → IsHub old → IsCalm old → ((e : Event) × (r ≡ Did e)) ⊎ ((epoch : ℕ) × (r ≡ Sealed epoch)) → ChoosesDuty old r new → IsHub new → IsLonger old new
+duty_done exact other old new r hub calm (inl did) chosen hub-2 =
+    let c = subst (λ (q : Duty). ChoosesDuty old q new) did.1 chosen in
+    record {
+      job = c.1.0;
+      counters = c.1.1;
+      calm = other old new did.0 hub calm (duty_no_take did.0 ((exact (machine old) (state_of old)).0 did.0 c.0).1) c.1 hub-2;
+      longer = longer old new did.0 c.1;
+    }
+duty_done exact other old new r hub calm (inr sealed) chosen hub-2 = absurd (subst (λ (q : Duty). ChoosesDuty old q new) sealed.1 chosen)
+
+-- ---- a Take
+
+-- a journal hasn't ended after a Take, so that its Give is appended
+pub given_after_take : (old taken given : HubValues) (i lane j : ℕ) → Appended old (Take i lane) taken → AppendedUnlessEnded taken (Give j) given → Appended taken (Give j) given
+given_after_take old taken given i lane j more after =
+    let going : has_ended (reverse taken.journal.events) ≡ false =
+    ap (λ (es : List Event). has_ended (reverse es)) more.2 ∙ ap (λ (es : List Event). has_ended es) (reverse-append old.journal.events (Take i lane ∷ [])) in
+    MatchBool-at_false _ _ going after
+
+-- ---- a Stop
+
+-- what a Stop leaves, whether the journal had ended or not
+pub record IsStopped (old new : HubValues) : Type 0 where
+  pub job : new.job ≡ old.job
+  pub counters : new.counters ≡ old.counters
+  pub calm : IsCalm new
+  pub ended : has_ended (reverse new.journal.events) ≡ true
+
+stopped_if : (had : Bool) → CalmAfterOther → (old new : HubValues) (cause : StopCause) → has_ended (reverse old.journal.events) ≡ had → IsHub old → IsCalm old → MatchBool had (new ≡ old) (Appended old (Stop cause) new) → IsHub new → IsStopped old new
+stopped_if true other old new cause had hub calm same hub-2 = record {
+  job = ap (λ (h : HubValues). h.job) same;
+  counters = ap (λ (h : HubValues). h.counters) same;
+  calm = subst (λ (h : HubValues). IsCalm h) (sym same) calm;
+  ended = ap (λ (h : HubValues). has_ended (reverse h.journal.events)) same ∙ had;
+}
+stopped_if false other old new cause had hub calm more hub-2 = record {
+  job = more.0;
+  counters = more.1;
+  calm = other old new (Stop cause) hub calm refl more hub-2;
+  ended = ap (λ (es : List Event). has_ended (reverse es)) more.2 ∙ ap (λ (es : List Event). has_ended es) (reverse-append old.journal.events (Stop cause ∷ []));
+}
+
+stopped : CalmAfterOther → (old new : HubValues) (cause : StopCause) → IsHub old → IsCalm old → AppendedUnlessEnded old (Stop cause) new → IsHub new → IsStopped old new
+stopped other old new cause hub calm after hub-2 = stopped_if (has_ended (reverse old.journal.events)) other old new cause refl hub calm after hub-2
+
+-- a Stop where a call for which there was no memory has changed nothing
+pub stopped_unchanged : CalmAfterOther → (old between new : HubValues) (cause : StopCause) → IsCalm old → Unchanged old between → IsHub between → AppendedUnlessEnded between (Stop cause) new → IsHub new → IsStopped old new
+stopped_unchanged other old between new cause calm same hub after hub-2 =
+    let s = stopped other between new cause hub (calm_unchanged old between same calm) after hub-2 in
+    record { job = s.job ∙ same.0; counters = s.counters ∙ same.1; calm = s.calm; ended = s.ended }

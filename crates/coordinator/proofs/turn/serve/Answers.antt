@@ -1,0 +1,90 @@
+use Rattle.std.proofs.Common.{◌≡◌, sym, ◌∙◌, ap, subst}
+use Rattle.graph_core.specs.declared.job.Job.{Job}
+use Rattle.graph_core.specs.Queries.{equations_of}
+use Rattle.graph_core.specs.Fragments.{fragments_of, fragment_of}
+use Rattle.base_machine.specs.Machine.{worker_at, is_fresh}
+use Rattle.grape_event.specs.declared.event.StopCause.TheVariants.{Memory}
+use Rattle.grape_hub.specs.declared.work.Next.{Next}
+use Rattle.grape_hub.specs.HubValues.{HubValues}
+use Rattle.grape_hub.specs.States.{workers_of}
+use Rattle.grape_hub.specs.Calls.{Chooses, ReadyWhereTook}
+use Rattle.grape_hub.specs.Theorems.{IsCalm}
+use Rattle.coordinator.specs.Turns.{GoesOn}
+use Rattle.coordinator.proofs.Turns.{worker_has_part, part_of_worker, evaluates, solves, stopped_unchanged, given_after_take}
+use Rattle.coordinator.proofs.turn.serve.Goals as goal
+
+pub next-requires-clause-free : goal.next-requires-clause-free
+next-requires-clause-free g c = c.turns_are_calm.ensures.free c.args.hub.now 0 c.requires.calm
+
+pub bounds-fragments-work : goal.bounds-fragments-work
+bounds-fragments-work g c =
+    let old = c.args.hub.now in
+    let new = c.next.new.self in
+    let work = c.in-Took.work in
+    let chosen = subst (λ (r : Next). Chooses old 0 r new) c.in-Took.is c.next.ensures.chosen in
+    worker_has_part new 0 (is_fresh (worker_at (workers_of old) work.worker)) work c.args.fragments.now c.next.ensures.hub chosen.2
+    (c.requires.fragments ∙ ap (λ (job : Job). fragments_of job) (sym chosen.1.0))
+
+pub evaluate-requires : goal.evaluate-requires
+evaluate-requires g c =
+    let old = c.args.hub.now in
+    let new = c.next.new.self in
+    let work = c.in-Took.work in
+    let fresh = is_fresh (worker_at (workers_of old) work.worker) in
+    let chosen = subst (λ (r : Next). Chooses old 0 r new) c.in-Took.is c.next.ensures.chosen in
+    let ready = subst (λ (r : Next). ReadyWhereTook new r) c.in-Took.is c.next.ensures.ready in
+    let parts = c.requires.fragments ∙ ap (λ (job : Job). fragments_of job) (sym chosen.1.0) in
+    let is_for = subst (λ (job : Job). g.P.Pie.is_for c.args.program.now job) (sym chosen.1.0) c.requires.program in
+    let part = part_of_worker new 0 fresh work c.args.fragments.now c.index-fragments-work.result c.next.ensures.hub chosen.2 parts c.index-fragments-work.is in
+    let counters : g.P.Pie.counters_for new.job ≡ new.counters = ap (λ (job : Job). g.P.Pie.counters_for job) chosen.1.0 ∙ (sym c.requires.counters ∙ sym chosen.1.1) in (
+      new.job,
+      is_for,
+      evaluates new.job (equations_of new.job) (g.P.Pie.equations c.args.program.now new.job) (fragment_of new.job work.worker) c.index-fragments-work.result work.fresh work.local new.counters (g.P.Pie.counters_for new.job) work.hand
+          (g.met.P.Pie.of_query c.args.program.now new.job is_for) part counters (c.works_go_round.ensures.evaluated new 0 fresh work c.next.ensures.hub chosen.2 ready),
+    )
+
+pub give-requires : goal.give-requires
+give-requires g c =
+    let old = c.args.hub.now in
+    let new = c.next.new.self in
+    let work = c.in-Took.work in
+    let fresh = is_fresh (worker_at (workers_of old) work.worker) in
+    let chosen = subst (λ (r : Next). Chooses old 0 r new) c.in-Took.is c.next.ensures.chosen in
+    let ready = subst (λ (r : Next). ReadyWhereTook new r) c.in-Took.is c.next.ensures.ready in
+    let parts = c.requires.fragments ∙ ap (λ (job : Job). fragments_of job) (sym chosen.1.0) in
+    let is_for = subst (λ (job : Job). g.P.Pie.is_for c.args.program.now job) (sym chosen.1.0) c.requires.program in
+    let part = part_of_worker new 0 fresh work c.args.fragments.now c.index-fragments-work.result c.next.ensures.hub chosen.2 parts c.index-fragments-work.is in
+    let counters : g.P.Pie.counters_for new.job ≡ new.counters = ap (λ (job : Job). g.P.Pie.counters_for job) chosen.1.0 ∙ (sym c.requires.counters ∙ sym chosen.1.1) in
+    let same = g.met.P.Pie.of_query c.args.program.now new.job is_for in
+    let may = evaluates new.job (equations_of new.job) (g.P.Pie.equations c.args.program.now new.job) (fragment_of new.job work.worker) c.index-fragments-work.result work.fresh work.local new.counters (g.P.Pie.counters_for new.job) work.hand
+    same part counters (c.works_go_round.ensures.evaluated new 0 fresh work c.next.ensures.hub chosen.2 ready) in
+    let solved = solves (equations_of new.job) (g.P.Pie.equations c.args.program.now new.job) (fragment_of new.job work.worker) c.index-fragments-work.result work.local.values work.hand.values c.evaluate.new.local.values
+    same part (c.evaluate.ensures.solution new.job is_for may) in
+    c.works_go_round.ensures.given new 0 fresh work c.evaluate.new.local c.next.ensures.hub chosen.2 solved c.evaluate.ensures.before c.evaluate.ensures.counters
+
+pub returns-in-Took-clause-calm : goal.returns-in-Took-clause-calm
+returns-in-Took-clause-calm g c =
+    let chosen = subst (λ (r : Next). Chooses c.args.hub.now 0 r c.next.new.self) c.in-Took.is c.next.ensures.chosen in
+    c.turns_are_calm.ensures.turn c.args.hub.now c.next.new.self c.give.new.self c.in-Took.work.worker 0 c.requires.hub c.requires.calm chosen.1 c.next.ensures.hub
+    (given_after_take c.args.hub.now c.next.new.self c.give.new.self c.in-Took.work.worker 0 c.in-Took.work.worker chosen.1 c.give.ensures.given) c.give.ensures.hub
+
+pub returns-in-Did-clause-calm : goal.returns-in-Did-clause-calm
+returns-in-Did-clause-calm g c =
+    let chosen = subst (λ (r : Next). Chooses c.args.hub.now 0 r c.next.new.self) c.in-Did.is c.next.ensures.chosen in
+    c.turns_are_calm.ensures.other c.args.hub.now c.next.new.self c.in-Did.field-0 c.requires.hub c.requires.calm chosen.1 chosen.2 c.next.ensures.hub
+
+pub returns-in-Ended-clause-calm : goal.returns-in-Ended-clause-calm
+returns-in-Ended-clause-calm g c =
+    let chosen = subst (λ (r : Next). Chooses c.args.hub.now 0 r c.next.new.self) c.in-Ended.is c.next.ensures.chosen in
+    subst (λ (h : HubValues). IsCalm h) (sym chosen.0) c.requires.calm
+
+pub returns-in-NoMemory : goal.returns-in-NoMemory
+returns-in-NoMemory g c =
+    let same = subst (λ (r : Next). Chooses c.args.hub.now 0 r c.next.new.self) c.in-NoMemory.is c.next.ensures.chosen in
+    let s = stopped_unchanged c.turns_are_calm.ensures.other c.args.hub.now c.next.new.self c.give_up.new.hub Memory c.requires.calm same c.next.ensures.hub c.give_up.ensures.stopped c.give_up.ensures.hub in
+    record { same = (s.job, s.counters); hub = c.give_up.ensures.hub; calm = s.calm; goes_on = subst (λ b. GoesOn b c.args.hub.now c.give_up.new.hub) (sym c.give_up.ensures.stays) s.ended }
+
+pub unreachable-requires : goal.unreachable-requires
+unreachable-requires g c =
+    let chosen = subst (λ (r : Next). Chooses c.args.hub.now 0 r c.next.new.self) c.in-Idle.is c.next.ensures.chosen in
+    c.one_lane_goes_on.ensures c.args.hub.now 0 c.requires.hub c.requires.calm c.requires.duty.0 c.requires.hub.job.settings.lanes.0 c.requires.duty.1 chosen.0

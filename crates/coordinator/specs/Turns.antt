@@ -1,0 +1,14 @@
+-- What a turn of a run on one lane leaves.
+use Rattle.std.specs.Prelude.{◌≡◌, ◌<◌, Bool, true, false, MatchBool, None, length, reverse}
+use Rattle.legal_journal.specs.Past.{has_ended}
+use Rattle.legal_journal.specs.Choices.{duty_choice}
+use Rattle.grape_hub.specs.HubValues.{HubValues}
+use Rattle.grape_hub.specs.States.{machine, state_of}
+
+-- Where the run goes on there is an event more, and where it doesn't the journal has ended.
+abbrev pub GoesOn : Bool → HubValues → HubValues → Type 0
+GoesOn goes_on old new = MatchBool goes_on (length old.journal.events < length new.journal.events) (has_ended (reverse new.journal.events) ≡ true)
+
+-- The journal hasn't ended, and the coordinator has nothing to do.
+abbrev pub HasNoDuty : HubValues → Type 0
+HasNoDuty h = (has_ended (reverse h.journal.events) ≡ false) × (duty_choice (machine h) (state_of h) ≡ None)

@@ -1,0 +1,149 @@
+ghost use Rattle.std.specs.Prelude.{◌≡◌, true, [], reverse};
+ghost use Rattle.graph_core.specs.Graphs.{IsJob};
+ghost use Rattle.graph_core.specs.Fragments.{fragments_of};
+ghost use Rattle.legal_journal.specs.Past.{has_ended};
+ghost use Rattle.grape_hub.specs.States.{IsHub};
+ghost use Rattle.grape_hub.specs.Theorems.{IsCalm};
+ghost use Rattle.coordinator.specs.Shapes.{shape_of};
+ghost use Rattle.coordinator.specs.Runs.{HasRun, LastEvent};
+
+use crate::kept_at::KeptAt;
+use crate::laws::shapes_begin_runs;
+use crate::ran::Ran;
+use crate::story::Story;
+use crate::turn::take_turn;
+use delay_stretch::Pacer;
+use grape_event::{Event, Journal};
+use grape_hub::{Hub, hubs_are_bounded, turns_are_calm};
+use graph_core::{Fragment, Job, Query};
+use pie_core::Pie;
+use pie_dist::Dist;
+use pie_flood::{Labels, Reach};
+use pie_sim::Sim;
+use std::alloc::Global;
+use token_cut::{Shape, Snapshot};
+
+/// Runs a job on the caller's thread, which serves all its workers as lane 0. It repeats: one duty of the coordinator, and
+/// where there is none the lane's next event, with its evaluation and its Give. Where memory runs out before the run has
+/// begun, it answers `NoMemory`, and after that it stops with the cause `Memory`. The fragments and the shape are those
+/// of the job, which asks for no snapshots. A worker past the last pacer has none, which adds no turns to its Stretches.
+pub fn run_alone<Q: Pacer>(
+    alloc: Global,
+    job: &Job,
+    fragments: &[Fragment],
+    shape: &Shape,
+    pacers: Vec<Q>,
+) -> Ran
+    requires job { IsJob job.now }
+    requires fragments { fragments.now ≡ fragments_of job.now }
+    requires shape { shape.now ≡ shape_of job.now }
+    requires snapshot { job.now.settings.snapshot ≡ 0 }
+    ensures { HasRun job.now fragments.now result }
+{
+    match &job.query {
+        Query::Dist(_) => run_on(
+            alloc,
+            job,
+            fragments,
+            shape,
+            pacers,
+            &Dist::new(),
+            Dist::new(),
+        ),
+        Query::Label => run_on(
+            alloc,
+            job,
+            fragments,
+            shape,
+            pacers,
+            &Labels::new(),
+            Labels::new(),
+        ),
+        Query::Reach(_) => run_on(
+            alloc,
+            job,
+            fragments,
+            shape,
+            pacers,
+            &Reach::new(),
+            Reach::new(),
+        ),
+        Query::Sim(pattern) => {
+            let Ok(program) = Sim::new(alloc, pattern) else {
+                return Ran::NoMemory;
+            };
+            let Ok(kept) = Sim::new(alloc, pattern) else {
+                return Ran::NoMemory;
+            };
+            run_on(alloc, job, fragments, shape, pacers, &program, kept)
+        }
+    }
+}
+
+/// The same by the program of the job's query. The two programs are of one type; the hub keeps one of them.
+fn run_on<P: Pie, Q: Pacer>(
+    alloc: Global,
+    job: &Job,
+    fragments: &[Fragment],
+    shape: &Shape,
+    pacers: Vec<Q>,
+    program: &P,
+    kept: P,
+) -> Ran
+    requires job { IsJob job.now }
+    requires fragments { fragments.now ≡ fragments_of job.now }
+    requires shape { shape.now ≡ shape_of job.now }
+    requires snapshot { job.now.settings.snapshot ≡ 0 }
+    requires program { P.is_for program.now job.now }
+    requires kept { P.is_for kept job.now }
+    ensures { HasRun job.now fragments.now result }
+{
+    shapes_begin_runs();
+    hubs_are_bounded();
+    turns_are_calm();
+    let Ok(start) = Snapshot::fresh(alloc, shape) else {
+        return Ran::NoMemory;
+    };
+    let mut into = Snapshot {
+        epoch: 0,
+        parts: Vec::new(alloc),
+    };
+    let Ok(mut hub) = Hub::open(alloc, kept, job, fragments, pacers, start) else {
+        return Ran::NoMemory;
+    };
+    'turns: while take_turn(&mut hub, &mut into, fragments, program) {}
+    ended(alloc, job, fragments, hub)
+}
+
+/// What a hub whose journal has ended, with nobody out, tells of its run.
+fn ended<P: Pie, Q: Pacer>(alloc: Global, job: &Job, fragments: &[Fragment], hub: Hub<P, Q>) -> Ran
+    requires hub { IsHub hub }
+    requires same { hub.job ≡ job.now }
+    requires fragments { fragments.now ≡ fragments_of job.now }
+    requires ended { has_ended (reverse hub.journal.events) ≡ true }
+    requires calm { IsCalm hub }
+    ensures { HasRun job.now fragments.now result }
+{
+    let (locals, journal, start) = hub.finish();
+    let last = last_event(&journal);
+    let story = Story {
+        start,
+        journal,
+        kept: Vec::new(alloc),
+    };
+    match last {
+        Event::Stop { cause } => Ran::Stopped { cause, story },
+        _ => Ran::Done { locals, story },
+    }
+}
+
+/// The event that ended a journal.
+fn last_event(journal: &Journal) -> Event
+    requires { has_ended (reverse journal.now.events) ≡ true }
+    ensures { LastEvent journal.now.events result }
+{
+    match journal.get(journal.len() - 1) {
+        Some(event) => event,
+        None => unreachable!(),
+    }
+}

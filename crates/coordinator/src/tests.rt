@@ -1,0 +1,186 @@
+ghost use Rattle.std.specs.Prelude.{IfOk};
+ghost use Rattle.graph_core.specs.Graphs.{IsJob};
+ghost use Rattle.graph_text.specs.Input.{IsBuilt};
+
+use crate::{Ran, Story, run_alone, shape_of};
+use answer_text::assemble;
+use delay_stretch::{Calm, Pacer, Scripted};
+use fragment_cut::fragment;
+use grape_event::{Event, Journal};
+use graph_core::{Fragment, Job};
+use graph_text::{LineReader, TextFault};
+use pie_core::Local;
+use std::alloc::Global;
+use std::marker::Send;
+use std::process::Abort;
+use std::test::Fail;
+use value_order::Order;
+
+/// The job of a text.
+fn job_of(alloc: Global, text: &str) -> Result<Job, TextFault>
+    ensures job { IfOk result IsJob }
+    ensures built { IfOk result IsBuilt }
+{
+    let mut reader = LineReader::new(alloc)?;
+    reader.feed(text.as_bytes())?;
+    reader.finish()
+}
+
+/// Runs a job with these pacers.
+fn ran<Q: Pacer>(alloc: Global, job: &Job, pacers: Vec<Q>) -> Result<Ran, TextFault>
+    requires job { IsJob job.now }
+    requires built { IsBuilt job.now }
+{
+    let fragments = fragment(alloc, job)?;
+    let shape = shape_of(alloc, job, &fragments)?;
+    Ok(run_alone(alloc, job, &fragments, &shape, pacers))
+}
+
+/// Stops where a journal has other events.
+fn check_events(rt: &impl Abort, journal: &Journal, want: &[Event]) {
+    assert_eq!(rt; journal.len(), want.len() as u64);
+    for (place, event) in want.iter().enumerate() {
+        assert_eq!(rt; journal.get(place as u64), Some(*event));
+    }
+}
+
+/// Stops where a run has other events, or isn't done.
+fn check_run(rt: &impl Abort, ran: &Ran, want: &[Event]) {
+    match ran {
+        Ran::Done { story, .. } => {
+            assert_eq!(rt; story.start.epoch, 0);
+            assert_eq!(rt; story.kept.len(), 0);
+            check_events(rt, &story.journal, want);
+        }
+        Ran::Stopped { .. } | Ran::NoMemory => panic!(rt; "the run isn't done"),
+    }
+}
+
+fn take(worker: u32) -> Event {
+    Event::Take { worker, lane: 0 }
+}
+
+fn give(worker: u32) -> Event {
+    Event::Give { worker }
+}
+
+fn flag(worker: u32) -> Event {
+    Event::Flag { worker }
+}
+
+fn ack(worker: u32) -> Event {
+    Event::Ack { worker }
+}
+
+fn hold(worker: u32) -> Event {
+    Event::Hold { worker }
+}
+
+fn stretch(worker: u32, turns: u32) -> Event {
+    Event::Stretch { worker, turns }
+}
+
+fn chain() -> &'static str {
+    "query dist 1\nfragments 2\ncut range\npolicy ap\nlanes 1\n1 2 5\n2 3 1\n"
+}
+
+/// Vertex 4, of the upper fragment, is read by vertex 1 of the lower one, and the source is in the upper one.
+fn backward() -> &'static str {
+    "query dist 3\nfragments 2\ncut range\npolicy ap\nlanes 1\nv 2\n3 4 1\n4 1 1\n"
+}
+
+fn chain_events() -> [Event; 10] {
+    [
+        take(0),
+        give(0),
+        take(1),
+        give(1),
+        flag(0),
+        flag(1),
+        Event::Ask,
+        ack(0),
+        ack(1),
+        Event::End,
+    ]
+}
+
+fn stretched_events() -> [Event; 15] {
+    [
+        take(0),
+        give(0),
+        take(1),
+        give(1),
+        stretch(0, 3),
+        flag(1),
+        hold(0),
+        hold(0),
+        take(0),
+        give(0),
+        flag(0),
+        Event::Ask,
+        ack(1),
+        ack(0),
+        Event::End,
+    ]
+}
+
+fn calm_events() -> [Event; 13] {
+    [
+        take(0),
+        give(0),
+        take(1),
+        give(1),
+        stretch(0, 0),
+        take(0),
+        give(0),
+        flag(1),
+        flag(0),
+        Event::Ask,
+        ack(1),
+        ack(0),
+        Event::End,
+    ]
+}
+
+#[test]
+fn a_run_ends_by_a_probe(rt: HostRuntime) -> Result<(), Fail> {
+    let alloc = rt.alloc();
+    let job = job_of(alloc, chain())?;
+    let none: Vec<Calm> = Vec::new(alloc);
+    check_run(&rt, &ran(alloc, &job, none)?, &chain_events());
+    Ok(())
+}
+
+/// The pacer that is handed in for a worker is asked.
+#[test]
+fn a_pacer_adds_turns(rt: HostRuntime) -> Result<(), Fail> {
+    let alloc = rt.alloc();
+    let job = job_of(alloc, backward())?;
+    let mut pacers = Vec::new(alloc);
+    pacers.push(Scripted::new(Vec::from_slice(alloc, &[3])?))?;
+    check_run(&rt, &ran(alloc, &job, pacers)?, &stretched_events());
+    Ok(())
+}
+
+#[test]
+fn calm_pacers_add_none(rt: HostRuntime) -> Result<(), Fail> {
+    let alloc = rt.alloc();
+    let job = job_of(alloc, backward())?;
+    let mut pacers = Vec::new(alloc);
+    pacers.push(Calm)?;
+    pacers.push(Calm)?;
+    check_run(&rt, &ran(alloc, &job, pacers)?, &calm_events());
+    Ok(())
+}
+
+#[test]
+fn boxed_pacers_are_asked(rt: HostRuntime) -> Result<(), Fail> {
+    let alloc = rt.alloc();
+    let job = job_of(alloc, backward())?;
+    let mut pacers: Vec<Box<dyn Pacer + Send>> = Vec::new(alloc);
+    let script = Scripted::new(Vec::from_slice(alloc, &[3])?);
+    pacers.push(Box::new(alloc, script)?)?;
+    pacers.push(Box::new(alloc, Calm)?)?;
+    check_run(&rt, &ran(alloc, &job, pacers)?, &stretched_events());
+    Ok(())
+}

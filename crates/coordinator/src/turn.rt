@@ -1,0 +1,100 @@
+ghost use Rattle.std.specs.Prelude.{◌≡◌, false, MatchOption};
+ghost use Rattle.graph_core.specs.Fragments.{fragments_of};
+ghost use Rattle.grape_event.specs.declared.event.Event.TheVariants.{Stop};
+ghost use Rattle.grape_event.specs.declared.event.StopCause.TheVariants.{Memory};
+ghost use Rattle.grape_hub.specs.States.{IsHub};
+ghost use Rattle.grape_hub.specs.Calls.{AppendedUnlessEnded};
+ghost use Rattle.grape_hub.specs.Theorems.{IsCalm};
+ghost use Rattle.coordinator.specs.Turns.{GoesOn, HasNoDuty};
+
+use delay_stretch::Pacer;
+use grape_event::StopCause;
+use grape_hub::{Duty, Hub, Next, one_lane_goes_on, turns_are_calm, works_go_round};
+use graph_core::Fragment;
+use legal_journal::choices_are_exact;
+use pie_core::{Pie, evaluate};
+use token_cut::Snapshot;
+
+/// One turn of a run on one lane: a duty, or else what the lane has to do. Says whether the run goes on; where it
+/// doesn't, its journal has ended. Nobody is out before and after.
+pub(crate) fn take_turn<P: Pie, Q: Pacer>(
+    hub: &mut Hub<P, Q>,
+    into: &mut Snapshot,
+    fragments: &[Fragment],
+    program: &P,
+) -> bool
+    requires hub { IsHub hub.old }
+    requires calm { IsCalm hub.old }
+    requires fragments { fragments.now ≡ fragments_of hub.old.job }
+    requires program { P.is_for program.now hub.old.job }
+    requires counters { hub.old.counters ≡ P.counters_for hub.old.job }
+    ensures same { (hub.new.job ≡ hub.old.job) × (hub.new.counters ≡ hub.old.counters) }
+    ensures hub { IsHub hub.new }
+    ensures calm { IsCalm hub.new }
+    ensures goes_on { GoesOn result hub.old hub.new }
+{
+    match do_duty(hub, into) {
+        Some(goes_on) => goes_on,
+        None => serve(hub, fragments, program),
+    }
+}
+
+/// A duty of the coordinator, and whether the run goes on after it. `None` comes exactly where there is none before the
+/// journal's end.
+fn do_duty<P: Pie, Q: Pacer>(hub: &mut Hub<P, Q>, into: &mut Snapshot) -> Option<bool>
+    requires hub { IsHub hub.old }
+    requires calm { IsCalm hub.old }
+    ensures same { (hub.new.job ≡ hub.old.job) × (hub.new.counters ≡ hub.old.counters) }
+    ensures hub { IsHub hub.new }
+    ensures calm { IsCalm hub.new }
+    ensures duty { MatchOption result ((hub.new ≡ hub.old) × HasNoDuty hub.new) (λ goes_on. GoesOn goes_on hub.old hub.new) }
+{
+    turns_are_calm();
+    choices_are_exact();
+    match hub.duty(into) {
+        Duty::Did(_) | Duty::Sealed(_) => Some(true),
+        Duty::Nothing => None,
+        Duty::Ended => Some(false),
+        Duty::NoMemory => Some(give_up(hub)),
+    }
+}
+
+/// The next event of lane 0, and where it is a Take its evaluation and its Give. There is no duty.
+fn serve<P: Pie, Q: Pacer>(hub: &mut Hub<P, Q>, fragments: &[Fragment], program: &P) -> bool
+    requires hub { IsHub hub.old }
+    requires calm { IsCalm hub.old }
+    requires duty { HasNoDuty hub.old }
+    requires fragments { fragments.now ≡ fragments_of hub.old.job }
+    requires program { P.is_for program.now hub.old.job }
+    requires counters { hub.old.counters ≡ P.counters_for hub.old.job }
+    ensures same { (hub.new.job ≡ hub.old.job) × (hub.new.counters ≡ hub.old.counters) }
+    ensures hub { IsHub hub.new }
+    ensures calm { IsCalm hub.new }
+    ensures goes_on { GoesOn result hub.old hub.new }
+{
+    turns_are_calm();
+    works_go_round();
+    one_lane_goes_on();
+    match hub.next(0) {
+        Next::Took(mut work) => {
+            let part = &fragments[work.worker as usize];
+            evaluate(program, part, work.fresh, &mut work.local, &work.hand);
+            hub.give(0, work);
+            true
+        }
+        Next::Did(_) => true,
+        Next::Idle => unreachable!(),
+        Next::Ended => false,
+        Next::NoMemory => give_up(hub),
+    }
+}
+
+/// Stops for want of memory, where the journal hasn't ended, and says that the run doesn't go on.
+fn give_up<P: Pie, Q: Pacer>(hub: &mut Hub<P, Q>) -> bool
+    ensures stopped { AppendedUnlessEnded hub.old (Stop Memory) hub.new }
+    ensures hub { IsHub hub.new }
+    ensures stays { result ≡ false }
+{
+    hub.stop(StopCause::Memory);
+    false
+}

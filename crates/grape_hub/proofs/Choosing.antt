@@ -1,0 +1,58 @@
+-- What a hub finds is the choice of its lane.
+use Rattle.std.proofs.Common.{◌≡◌, ℕ, ◌+◌, ◌<◌, ◌≤◌, Bool, true, false, nat_lt, if◌then◌else◌, refl, sym, ◌∙◌, ap, subst, arith, List, [], ◌∷◌, length, reverse, Option}
+use Rattle.std.proofs.lemmas.Bool.{ltb-true}
+use Rattle.std.proofs.lemmas.List.{length-reverse}
+use Rattle.graph_core.specs.declared.fragment.Route.{Route}
+use Rattle.grape_event.specs.declared.event.Event.{Event}
+use Rattle.grape_event.specs.declared.event.Event.TheVariants.{Take, Give, Stretch, Hold, Flag, Ask, Ack, Nack, Begin, Mark, Seal, Kept, End, Stop}
+use Rattle.legal_journal.specs.Past.{has_ended}
+use Rattle.legal_journal.specs.Legal.{worker_count, has_work_out}
+use Rattle.legal_journal.specs.Choices.{first_in_turn}
+use Rattle.stop_probe.specs.ProbeValues.{ProbeValues}
+use Rattle.grape_hub.specs.declared.desk.Desk.{Desk}
+use Rattle.grape_hub.specs.declared.kind.Kind.{Kind}
+use Rattle.grape_hub.specs.declared.sight.Sight.{Sight}
+use Rattle.grape_hub.specs.HubValues.{HubValues}
+use Rattle.grape_hub.specs.States.{machine, state_of, IsHub}
+use Rattle.grape_hub.specs.Choices.{IsChoice}
+use Rattle.grape_hub.specs.Desks.{TablesFit}
+use Rattle.grape_hub.specs.Kinds.{IsLeastRound, first_of_kinds, kinds}
+use Rattle.grape_hub.proofs.Hubs.{plain_of, past_of, ended_is, few_workers}
+use Rattle.grape_hub.proofs.Scan.{is_choice}
+
+-- the turn is that of a worker, or 0
+turn_within : (n : ℕ) (past : List Event) → first_in_turn n past ≤ n
+turn_within n [] = omega arith
+turn_within n (Take i k ∷ past) = go (nat_lt (i + 1) n) refl
+  where
+    go : (b : Bool) → nat_lt (i + 1) n ≡ b → (if b then i + 1 else 0) ≤ n
+    go true e = let l = ltb-true (i + 1) n e in omega (arith, l)
+    go false e = omega arith
+turn_within n (Give i ∷ past) = turn_within n past
+turn_within n (Stretch i t ∷ past) = turn_within n past
+turn_within n (Hold i ∷ past) = turn_within n past
+turn_within n (Flag i ∷ past) = turn_within n past
+turn_within n (Ask ∷ past) = turn_within n past
+turn_within n (Ack i ∷ past) = turn_within n past
+turn_within n (Nack i ∷ past) = turn_within n past
+turn_within n (Begin e ∷ past) = turn_within n past
+turn_within n (Mark i ∷ past) = turn_within n past
+turn_within n (Seal e ∷ past) = turn_within n past
+turn_within n (Kept e ∷ past) = turn_within n past
+turn_within n (End ∷ past) = turn_within n past
+turn_within n (Stop c ∷ past) = turn_within n past
+
+module _ (h : HubValues) (routes : List (List (List Route))) (desks : List Desk) (probe : ProbeValues) (turn : ℕ) (kept : IsHub h) (fits : TablesFit (machine h) (state_of h) h.counters routes desks probe turn) where
+  pub few_desks : length desks ≤ 64
+  few_desks = let c = fits.count in let f = few_workers h kept in omega (arith, c, f)
+
+  pub turn_in : turn ≤ length desks
+  turn_in = let c = fits.count in let t = fits.is_turn in let w = turn_within (worker_count (state_of h)) (state_of h).past in omega (arith, c, t, w)
+
+  pub choice_found : (lane : ℕ) → lane < h.job.settings.lanes → has_work_out (state_of h) lane ≡ false → has_ended (reverse h.journal.events) ≡ false →
+      (sight : Sight) → sight.policy ≡ h.job.settings.policy → sight.clock ≡ length h.journal.events → (seen looked : List Desk) → seen ≡ desks → looked ≡ desks → IsLeastRound seen sight.least →
+      (found : Option (Kind × ℕ)) → found ≡ first_of_kinds sight probe looked turn kinds → IsChoice (machine h) (state_of h) lane found
+  choice_found lane below free going sight policy clock seen looked same same' least found f =
+      subst (IsChoice (machine h) (state_of h) lane) (sym (f ∙ ap (λ ds. first_of_kinds sight probe ds turn kinds) same'))
+      (is_choice (machine h) (state_of h) h.counters routes desks probe turn fits (plain_of h kept) (ended_is h ∙ going) sight policy
+      (clock ∙ sym (ap (λ (past : List Event). length past) (past_of h) ∙ length-reverse h.journal.events)) (subst (λ ds. IsLeastRound ds sight.least) same least) lane below free)

@@ -1,0 +1,10 @@
+/// A kind of event that a lane looks for.
+#[derive(Clone, Copy)]
+pub enum Kind {
+    Take,
+    Stretch,
+    Ack,
+    Nack,
+    Flag,
+    Hold,
+}
