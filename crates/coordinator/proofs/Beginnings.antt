@@ -1,5 +1,5 @@
 -- The fresh snapshot of a job's shape is the one with which a run begins.
-use Rattle.std.proofs.Common.{◌≡◌, ℕ, sym, refl, List, [], ◌∷◌, length, map}
+use Rattle.std.proofs.Common.{◌≡◌, ℕ, sym, refl, ◌∙◌, ap, List, [], ◌∷◌, length, map}
 use Rattle.std.proofs.lemmas.List.{map-append, length-map}
 use Rattle.std.proofs.lemmas.Simd.{splat_is_map}
 use Rattle.value_order.specs.declared.TheConstants.{NOTHING}
@@ -7,9 +7,11 @@ use Rattle.graph_core.specs.declared.job.Job.{Job}
 use Rattle.graph_core.specs.Queries.{equations_of}
 use Rattle.graph_core.specs.Fragments.{numbers_below, owned_of, mirrors_of, piece_of, fragment_of}
 use Rattle.token_cut.specs.declared.phase.Phase.TheVariants.{Fresh}
+use Rattle.token_cut.specs.Parts.{SnapshotParts}
+use Rattle.token_cut.specs.Shapes.{Starts}
 use Rattle.token_cut.specs.Shapes as shapes
-use Rattle.base_machine.specs.Machine.{fresh_part}
-use Rattle.coordinator.specs.Shapes.{starts_in, ShapesBeginRuns}
+use Rattle.base_machine.specs.Machine.{system_of, fresh_part, fresh_snapshot}
+use Rattle.coordinator.specs.Shapes.{starts_in, shape_of, ShapesBeginRuns}
 
 part_begins : (job : Job) (i : ℕ) → shapes.fresh_part (starts_in job (fragment_of job i)) ≡ fresh_part (equations_of job) (piece_of job i)
 part_begins job i =
@@ -24,3 +26,7 @@ parts_begin job (i ∷ is) = λ t. part_begins job i t ∷ parts_begin job is t
 
 pub shapes_begin_runs : ShapesBeginRuns
 shapes_begin_runs job = λ t. record { epoch = 0; parts = parts_begin job (numbers_below job.settings.fragments) t }
+
+-- what is made of the shape of a job begins its run
+pub begun_fresh : (job : Job) (shape : Starts) (start : SnapshotParts) → shape ≡ shape_of job → start ≡ shapes.fresh_snapshot shape → start ≡ fresh_snapshot (system_of job)
+begun_fresh job shape start same made = made ∙ (ap (λ (s : Starts). shapes.fresh_snapshot s) same ∙ shapes_begin_runs job)

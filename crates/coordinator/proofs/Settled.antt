@@ -3,30 +3,29 @@ use Rattle.std.proofs.Common.{◌≡◌, ℕ, zero, suc, ◌*◌, ◌<◌, refl,
 use mathlib.Core.List.{reverse-cons}
 use Rattle.std.specs.List.{AllZip}
 use Rattle.std.proofs.lemmas.Bool.{false≢true}
-use Rattle.std.proofs.lemmas.List.{length-append, reverse-reverse}
+use Rattle.std.proofs.lemmas.List.{length-append, length-map, reverse-reverse}
 use Rattle.std.proofs.lemmas.Option.{same_Some}
 use Rattle.std.proofs.lemmas.List.FromFn.{length-map-range_with_len, get_or-map-range_with_len}
 use Rattle.circular_buffer.proofs.Places.{slice_get-last}
 use Rattle.graph_core.specs.declared.job.Job.{Job}
 use Rattle.graph_core.specs.Parts.{FragmentLists, place_count}
-use Rattle.graph_core.specs.Queries.{equations_of}
-use Rattle.graph_core.specs.Fragments.{Piece, piece_of, fragment_of, fragments_of, numbers_below, places}
-use Rattle.graph_core.proofs.Greatest.{greatest_is_there}
-use Rattle.graph_core.proofs.Lawful.{lawful}
+use Rattle.graph_core.specs.Fragments.{Piece, piece_at, piece_of, fragment_of, fragments_of, numbers_below, places}
 use Rattle.grape_event.specs.JournalList.{JournalList}
 use Rattle.grape_event.specs.declared.event.Event.{Event}
 use Rattle.grape_event.specs.declared.event.StopCause.{StopCause}
 use Rattle.grape_event.specs.declared.event.Event.TheVariants.{Take, Give, Stretch, Hold, Flag, Ask, Ack, Nack, Begin, Mark, Seal, Kept, End, Stop}
 use Rattle.pie_core.specs.Locals.{LocalValues}
 use Rattle.token_cut.specs.Parts.{SnapshotParts}
-use Rattle.base_machine.specs.Machine.{BaseState, Worker, worker_at, no_worker}
+use Rattle.base_machine.specs.Machine.{BaseState, Worker, worker_at, no_worker, system_of, fresh_snapshot}
 use Rattle.legal_journal.specs.Past.{has_ended}
 use Rattle.legal_journal.specs.Legal.{IsLegal, state_at_end}
 use Rattle.answer_text.specs.Assembled.{FitParts, values_at}
 use Rattle.grape_hub.specs.HubValues.{HubValues}
-use Rattle.grape_hub.specs.States.{machine, beginning, workers_of, IsHub}
+use Rattle.grape_hub.specs.States.{machine, workers_of, IsHub}
 use Rattle.grape_hub.specs.Calls.{HaveValues, HaveSizes}
-use Rattle.grape_hub.proofs.Answering.{fit}
+use Rattle.pie_core.specs.Solutions.{starts_of}
+use Rattle.base_machine.proofs.Giving.{below-length}
+use Rattle.grape_hub.proofs.Formed.{formed}
 use Rattle.grape_hub.proofs.Hubs.{workers_are}
 use Rattle.grape_hub.proofs.Ready.{piece_is}
 use Rattle.coordinator.specs.declared.story.Story.{Story}
@@ -57,10 +56,11 @@ same_values (w ∷ ws) (l ∷ ls) a (suc i) = same_values ws ls a.1 i
 -- a worker has a value for each place of its fragment
 places_each : (h : HubValues) → IsHub h → (i : ℕ) → i < length (workers_of h) → length (worker_at (workers_of h) i).values ≡ place_count (fragment_of h.job i)
 places_each h hub i l =
-    let there = greatest_is_there (equations_of h.job) (lawful h.job.graph h.job.query hub.job.graph) in
     let n = workers_are h hub in
-    let shape = ((fit h there.0 hub there.1).each i l).shape in
-    shape.values ∙ (ap (λ (q : Piece). length (places q)) (piece_is h i (omega (arith, l, n))) ∙ length-append (fragment_of h.job i).owned (fragment_of h.job i).mirrors)
+    let piece = piece_at (machine h).pieces i in
+    let values = (worker_at (workers_of h) i).values in
+    let long = below-length (machine h).equations.order values (starts_of (machine h).equations (places piece)) (formed h hub i l).values in
+    long ∙ (length-map (places piece) (machine h).equations.start ∙ ap (λ (q : Piece). length (places q)) (piece_is h i (omega (arith, l, n))) ∙ length-append (fragment_of h.job i).owned (fragment_of h.job i).mirrors)
 
 locals_fit : (h : HubValues) (parts : List FragmentLists) (locals : List LocalValues) → IsHub h → parts ≡ fragments_of h.job → HaveValues h locals → FitParts parts locals
 locals_fit h parts locals hub same have =
@@ -83,16 +83,16 @@ owned_each job counters (i ∷ is) (l ∷ ls) a = (a.0.0, owned_each job counter
 
 -- a story has a hub's start and journal
 pub record Tells (h : HubValues) (story : Story) : Type 0 where
-  pub start : story.start ≡ beginning h
+  pub start : story.start ≡ h.start
   pub journal : story.journal ≡ h.journal
   pub kept : story.kept.items ≡ []
 
-pub story_of : (h : HubValues) (job : Job) (story : Story) → IsHub h → h.job ≡ job → Tells h story → IsStoryOf job story
-story_of h job story hub same tells =
+pub story_of : (h : HubValues) (job : Job) (story : Story) → IsHub h → h.job ≡ job → h.start ≡ fresh_snapshot (system_of job) → Tells h story → IsStoryOf job story
+story_of h job story hub same fresh tells =
     let legal =
     subst (λ (s : SnapshotParts). IsLegal (machine h) s story.journal.events) (sym tells.start)
-    (subst (λ (j : JournalList). IsLegal (machine h) (beginning h) j.events) (sym tells.journal) hub.legal) in
-    subst (λ (j : Job). IsStoryOf j story) same (record { start = tells.start; legal = legal; kept = tells.kept })
+    (subst (λ (j : JournalList). IsLegal (machine h) h.start j.events) (sym tells.journal) hub.legal) in
+    record { start = tells.start ∙ fresh; legal = subst (λ (j : Job). IsLegal (system_of j) story.start story.journal.events) same legal; kept = tells.kept }
 
 pub locals_of : (h : HubValues) (job : Job) (parts : List FragmentLists) (story : Story) (locals : List LocalValues) → IsHub h → h.job ≡ job → parts ≡ fragments_of job → Tells h story → HaveValues h locals → HaveSizes h locals →
     AreLocalsOf job parts story locals
@@ -101,7 +101,7 @@ locals_of h job parts story locals hub same all tells values sizes =
     let owned = subst (λ (ps : List FragmentLists). AllZip (λ (part : FragmentLists) (local : LocalValues). length local.before ≡ length part.owned) ps locals) (sym here) (owned_each h.job h.counters (numbers_below h.job.settings.fragments) locals sizes) in
     let at_end =
     subst (λ (s : SnapshotParts). AllZip (λ (local : LocalValues) (w : Worker). local.values ≡ w.values) locals (state_at_end (machine h) s story.journal.events).workers) (sym tells.start)
-    (subst (λ (j : JournalList). AllZip (λ (local : LocalValues) (w : Worker). local.values ≡ w.values) locals (state_at_end (machine h) (beginning h) j.events).workers) (sym tells.journal) values) in
+    (subst (λ (j : JournalList). AllZip (λ (local : LocalValues) (w : Worker). local.values ≡ w.values) locals (state_at_end (machine h) h.start j.events).workers) (sym tells.journal) values) in
     subst (λ (j : Job). AreLocalsOf j parts story locals) same (record { places = locals_fit h parts locals hub here values; owned = owned; values = at_end })
 
 -- ---- the last event

@@ -1,5 +1,5 @@
 -- One turn of the lane.
-use Rattle.std.proofs.Common.{◌≡◌, ℕ, ◌<◌, ◌⊎◌, inl, inr, Bool, true, false, MatchBool, refl, sym, ◌∙◌, ap, subst, arith, List, [], ◌∷◌, length, reverse, slice_index_or, None, length-append}
+use Rattle.std.proofs.Common.{◌≡◌, ℕ, ◌<◌, ◌⊎◌, inl, inr, Bool, true, false, MatchBool, refl, sym, ◌∙◌, ap, subst, arith, List, [], ◌∷◌, length, reverse, slice_index_or, length-append}
 use Rattle.std.proofs.lemmas.Bool.{false≢true, MatchBool-at_false}
 use Rattle.std.proofs.lemmas.List.{reverse-append}
 use Rattle.std.proofs.lemmas.List.FromFn.{length-map-range_with_len, get_or-map-range_with_len}
@@ -15,8 +15,9 @@ use Rattle.grape_event.specs.declared.event.Event.{Event}
 use Rattle.grape_event.specs.declared.event.Event.TheVariants.{Take, Give, Stretch, Hold, Flag, Ask, Ack, Nack, Begin, Mark, Seal, Kept, End, Stop}
 use Rattle.grape_event.specs.declared.event.StopCause.{StopCause}
 use Rattle.grape_event.specs.Events.{is_take}
+use Rattle.token_cut.specs.Parts.{SnapshotParts}
 use Rattle.legal_journal.specs.Past.{has_ended}
-use Rattle.legal_journal.specs.Choices.{is_duty, duty_choice}
+use Rattle.legal_journal.specs.Choices.{is_duty}
 use Rattle.legal_journal.specs.Theorems.{DutiesAreExact}
 use Rattle.grape_hub.specs.declared.work.Work.{Work}
 use Rattle.grape_hub.specs.declared.work.Duty.{Duty}
@@ -61,8 +62,9 @@ longer old new e more =
 
 calm_unchanged : (old new : HubValues) → Unchanged old new → IsCalm old → IsCalm new
 calm_unchanged old new same calm =
-    let Calm : Job → List Event → Type 0 = λ job events. IsCalm (record { job = job; counters = new.counters; journal = record { events = events; spare = 0 } }) in
-    subst (λ (job : Job). Calm job new.journal.events) (sym same.0) (subst (λ (es : List Event). Calm old.job es) (sym same.2) calm)
+    let Calm : Job → SnapshotParts → List Event → Type 0 = λ job start events. IsCalm (record { job = job; counters = new.counters; start = start; journal = record { events = events; spare = 0 } }) in
+    subst (λ (job : Job). Calm job new.start new.journal.events) (sym same.0)
+    (subst (λ (start : SnapshotParts). Calm old.job start new.journal.events) (sym same.3) (subst (λ (es : List Event). Calm old.job old.start es) (sym same.2) calm))
 
 -- a duty is no Take
 duty_no_take : (e : Event) → is_duty e ≡ true → is_take e ≡ false
@@ -85,6 +87,7 @@ duty_no_take (Stop c) h = refl
 pub record IsLonger (old new : HubValues) : Type 0 where
   pub job : new.job ≡ old.job
   pub counters : new.counters ≡ old.counters
+  pub start : new.start ≡ old.start
   pub calm : IsCalm new
   pub longer : length old.journal.events < length new.journal.events
 
@@ -92,12 +95,21 @@ pub duty_done : DutiesAreExact → CalmAfterOther → (old new : HubValues) (r :
 duty_done exact other old new r hub calm (inl did) chosen hub-2 =
     let c = subst (λ (q : Duty). ChoosesDuty old q new) did.1 chosen in
     record {
+      job = c.2.0;
+      counters = c.2.1;
+      start = c.2.3;
+      calm = other old new did.0 hub calm (duty_no_take did.0 ((exact (machine old) (state_of old)).0 did.0 c.0).1) c.2 hub-2;
+      longer = longer old new did.0 c.2;
+    }
+duty_done exact other old new r hub calm (inr sealed) chosen hub-2 =
+    let c = subst (λ (q : Duty). ChoosesDuty old q new) sealed.1 chosen in
+    record {
       job = c.1.0;
       counters = c.1.1;
-      calm = other old new did.0 hub calm (duty_no_take did.0 ((exact (machine old) (state_of old)).0 did.0 c.0).1) c.1 hub-2;
-      longer = longer old new did.0 c.1;
+      start = c.1.3;
+      calm = other old new (Seal sealed.0) hub calm refl c.1 hub-2;
+      longer = longer old new (Seal sealed.0) c.1;
     }
-duty_done exact other old new r hub calm (inr sealed) chosen hub-2 = absurd (subst (λ (q : Duty). ChoosesDuty old q new) sealed.1 chosen)
 
 -- ---- a Take
 
@@ -114,6 +126,7 @@ given_after_take old taken given i lane j more after =
 pub record IsStopped (old new : HubValues) : Type 0 where
   pub job : new.job ≡ old.job
   pub counters : new.counters ≡ old.counters
+  pub start : new.start ≡ old.start
   pub calm : IsCalm new
   pub ended : has_ended (reverse new.journal.events) ≡ true
 
@@ -121,12 +134,14 @@ stopped_if : (had : Bool) → CalmAfterOther → (old new : HubValues) (cause : 
 stopped_if true other old new cause had hub calm same hub-2 = record {
   job = ap (λ (h : HubValues). h.job) same;
   counters = ap (λ (h : HubValues). h.counters) same;
+  start = ap (λ (h : HubValues). h.start) same;
   calm = subst (λ (h : HubValues). IsCalm h) (sym same) calm;
   ended = ap (λ (h : HubValues). has_ended (reverse h.journal.events)) same ∙ had;
 }
 stopped_if false other old new cause had hub calm more hub-2 = record {
   job = more.0;
   counters = more.1;
+  start = more.3;
   calm = other old new (Stop cause) hub calm refl more hub-2;
   ended = ap (λ (es : List Event). has_ended (reverse es)) more.2 ∙ ap (λ (es : List Event). has_ended es) (reverse-append old.journal.events (Stop cause ∷ []));
 }
@@ -138,4 +153,4 @@ stopped other old new cause hub calm after hub-2 = stopped_if (has_ended (revers
 pub stopped_unchanged : CalmAfterOther → (old between new : HubValues) (cause : StopCause) → IsCalm old → Unchanged old between → IsHub between → AppendedUnlessEnded between (Stop cause) new → IsHub new → IsStopped old new
 stopped_unchanged other old between new cause calm same hub after hub-2 =
     let s = stopped other between new cause hub (calm_unchanged old between same calm) after hub-2 in
-    record { job = s.job ∙ same.0; counters = s.counters ∙ same.1; calm = s.calm; ended = s.ended }
+    record { job = s.job ∙ same.0; counters = s.counters ∙ same.1; start = s.start ∙ same.3; calm = s.calm; ended = s.ended }

@@ -3,12 +3,12 @@ use Rattle.std.specs.Prelude.{◌≡◌, ◌<◌, Bool, true, false, MatchBool, 
 use Rattle.legal_journal.specs.Past.{has_ended}
 use Rattle.legal_journal.specs.Choices.{duty_choice}
 use Rattle.grape_hub.specs.HubValues.{HubValues}
-use Rattle.grape_hub.specs.States.{machine, state_of}
+use Rattle.grape_hub.specs.States.{machine, state_of, sealed_epoch}
 
 -- Where the run goes on there is an event more, and where it doesn't the journal has ended.
 abbrev pub GoesOn : Bool → HubValues → HubValues → Type 0
 GoesOn goes_on old new = MatchBool goes_on (length old.journal.events < length new.journal.events) (has_ended (reverse new.journal.events) ≡ true)
 
--- The journal hasn't ended, and the coordinator has nothing to do.
+-- The journal hasn't ended, what is sealed is kept, and the coordinator has nothing to do.
 abbrev pub HasNoDuty : HubValues → Type 0
-HasNoDuty h = (has_ended (reverse h.journal.events) ≡ false) × (duty_choice (machine h) (state_of h) ≡ None)
+HasNoDuty h = (has_ended (reverse h.journal.events) ≡ false) × (sealed_epoch (state_of h).past ≡ None) × (duty_choice (machine h) (state_of h) ≡ None)

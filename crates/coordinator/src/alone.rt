@@ -1,6 +1,7 @@
 ghost use Rattle.std.specs.Prelude.{◌≡◌, true, [], reverse};
 ghost use Rattle.graph_core.specs.Graphs.{IsJob};
 ghost use Rattle.graph_core.specs.Fragments.{fragments_of};
+ghost use Rattle.base_machine.specs.Machine.{system_of, fresh_snapshot};
 ghost use Rattle.legal_journal.specs.Past.{has_ended};
 ghost use Rattle.grape_hub.specs.States.{IsHub};
 ghost use Rattle.grape_hub.specs.Theorems.{IsCalm};
@@ -8,13 +9,12 @@ ghost use Rattle.coordinator.specs.Shapes.{shape_of};
 ghost use Rattle.coordinator.specs.Runs.{HasRun, LastEvent};
 
 use crate::kept_at::KeptAt;
-use crate::laws::shapes_begin_runs;
 use crate::ran::Ran;
 use crate::story::Story;
 use crate::turn::take_turn;
 use delay_stretch::Pacer;
 use grape_event::{Event, Journal};
-use grape_hub::{Hub, hubs_are_bounded, turns_are_calm};
+use grape_hub::{Hub, fresh_is_a_start, hubs_are_bounded, turns_are_calm};
 use graph_core::{Fragment, Job, Query};
 use pie_core::Pie;
 use pie_dist::Dist;
@@ -98,7 +98,7 @@ fn run_on<P: Pie, Q: Pacer>(
     requires kept { P.is_for kept job.now }
     ensures { HasRun job.now fragments.now result }
 {
-    shapes_begin_runs();
+    fresh_is_a_start();
     hubs_are_bounded();
     turns_are_calm();
     let Ok(start) = Snapshot::fresh(alloc, shape) else {
@@ -119,6 +119,7 @@ fn run_on<P: Pie, Q: Pacer>(
 fn ended<P: Pie, Q: Pacer>(alloc: Global, job: &Job, fragments: &[Fragment], hub: Hub<P, Q>) -> Ran
     requires hub { IsHub hub }
     requires same { hub.job ≡ job.now }
+    requires start { hub.start ≡ fresh_snapshot (system_of job.now) }
     requires fragments { fragments.now ≡ fragments_of job.now }
     requires ended { has_ended (reverse hub.journal.events) ≡ true }
     requires calm { IsCalm hub }

@@ -9,7 +9,9 @@ ghost use Rattle.coordinator.specs.Turns.{GoesOn, HasNoDuty};
 
 use delay_stretch::Pacer;
 use grape_event::StopCause;
-use grape_hub::{Duty, Hub, Next, one_lane_goes_on, turns_are_calm, works_go_round};
+use grape_hub::{
+    Duty, Hub, Next, nothing_is_sealed, one_lane_goes_on, turns_are_calm, works_go_round,
+};
 use graph_core::Fragment;
 use legal_journal::choices_are_exact;
 use pie_core::{Pie, evaluate};
@@ -25,10 +27,11 @@ pub(crate) fn take_turn<P: Pie, Q: Pacer>(
 ) -> bool
     requires hub { IsHub hub.old }
     requires calm { IsCalm hub.old }
+    requires snapshot { hub.old.job.settings.snapshot ≡ 0 }
     requires fragments { fragments.now ≡ fragments_of hub.old.job }
     requires program { P.is_for program.now hub.old.job }
     requires counters { hub.old.counters ≡ P.counters_for hub.old.job }
-    ensures same { (hub.new.job ≡ hub.old.job) × (hub.new.counters ≡ hub.old.counters) }
+    ensures same { (hub.new.job ≡ hub.old.job) × (hub.new.counters ≡ hub.old.counters) × (hub.new.start ≡ hub.old.start) }
     ensures hub { IsHub hub.new }
     ensures calm { IsCalm hub.new }
     ensures goes_on { GoesOn result hub.old hub.new }
@@ -39,19 +42,22 @@ pub(crate) fn take_turn<P: Pie, Q: Pacer>(
     }
 }
 
-/// A duty of the coordinator, and whether the run goes on after it. `None` comes exactly where there is none before the
-/// journal's end.
+/// A duty of the coordinator in a run without snapshots, and whether the run goes on after it. `None` comes exactly where
+/// there is none before the journal's end.
 fn do_duty<P: Pie, Q: Pacer>(hub: &mut Hub<P, Q>, into: &mut Snapshot) -> Option<bool>
     requires hub { IsHub hub.old }
     requires calm { IsCalm hub.old }
-    ensures same { (hub.new.job ≡ hub.old.job) × (hub.new.counters ≡ hub.old.counters) }
+    requires snapshot { hub.old.job.settings.snapshot ≡ 0 }
+    ensures same { (hub.new.job ≡ hub.old.job) × (hub.new.counters ≡ hub.old.counters) × (hub.new.start ≡ hub.old.start) }
     ensures hub { IsHub hub.new }
     ensures calm { IsCalm hub.new }
     ensures duty { MatchOption result ((hub.new ≡ hub.old) × HasNoDuty hub.new) (λ goes_on. GoesOn goes_on hub.old hub.new) }
 {
     turns_are_calm();
     choices_are_exact();
+    nothing_is_sealed();
     match hub.duty(into) {
+        // without snapshots no epoch is sealed
         Duty::Did(_) | Duty::Sealed(_) => Some(true),
         Duty::Nothing => None,
         Duty::Ended => Some(false),
@@ -67,7 +73,7 @@ fn serve<P: Pie, Q: Pacer>(hub: &mut Hub<P, Q>, fragments: &[Fragment], program:
     requires fragments { fragments.now ≡ fragments_of hub.old.job }
     requires program { P.is_for program.now hub.old.job }
     requires counters { hub.old.counters ≡ P.counters_for hub.old.job }
-    ensures same { (hub.new.job ≡ hub.old.job) × (hub.new.counters ≡ hub.old.counters) }
+    ensures same { (hub.new.job ≡ hub.old.job) × (hub.new.counters ≡ hub.old.counters) × (hub.new.start ≡ hub.old.start) }
     ensures hub { IsHub hub.new }
     ensures calm { IsCalm hub.new }
     ensures goes_on { GoesOn result hub.old hub.new }

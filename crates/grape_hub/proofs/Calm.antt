@@ -1,17 +1,19 @@
 -- One lane's turns leave nobody out.
-use Rattle.std.proofs.Common.{◌≡◌, ◌≢◌, ℕ, zero, suc, ◌+◌, ◌<◌, inl, inr, false, if◌then◌else◌, refl, sym, ◌∙◌, ap, subst, arith, List, [], ◌∷◌, length, map}
+use Rattle.std.proofs.Common.{◌≡◌, ◌≢◌, ℕ, zero, suc, ◌+◌, ◌<◌, inl, inr, false, if◌then◌else◌, refl, sym, ◌∙◌, ap, arith, List, [], ◌∷◌, length, map}
 use Rattle.std.proofs.lemmas.Bool.{cases_eq, eq-eqb, ne_eqb, and_left, false≢true}
-use Rattle.std.proofs.lemmas.List.{length-map}
-use Rattle.graph_core.specs.Fragments.{Piece, piece_at, numbers_below}
+use Rattle.graph_core.specs.Fragments.{piece_at, numbers_below}
 use Rattle.grape_event.specs.declared.event.Event.{Event}
 use Rattle.grape_event.specs.declared.event.Event.TheVariants.{Take, Give, Stretch, Hold, Flag, Ask, Ack, Nack, Begin, Mark, Seal, Kept, End, Stop}
 use Rattle.grape_event.specs.Events.{is_take}
-use Rattle.base_machine.specs.Machine.{System, BaseState, Worker, BaseTake, BaseGive, Post, worker_at, is_running, after_taking, after_giving, after_receiving, sent_to, fresh_part, worker_of, base_state_of}
+use Rattle.token_cut.specs.Parts.{PartValues}
+use Rattle.token_cut.specs.declared.phase.Phase.{Phase}
+use Rattle.token_cut.specs.declared.phase.Phase.TheVariants.{Fresh as FreshPhase, Rest as RestPhase}
+use Rattle.base_machine.specs.Machine.{System, Worker, BaseTake, BaseGive, Post, worker_at, is_running, after_taking, after_giving, after_receiving, sent_to, standing_of, worker_of}
 use Rattle.base_machine.proofs.Swapping.{after-length, after-at}
 use Rattle.legal_journal.specs.Past.{gives_of_each}
 use Rattle.legal_journal.specs.Legal.{State, worker_count, state_after, state_at_end}
 use Rattle.legal_journal.proofs.Choosing.{any_none}
-use Rattle.grape_hub.specs.States.{machine, beginning, state_of, workers_of}
+use Rattle.grape_hub.specs.States.{machine, state_of}
 use Rattle.grape_hub.specs.Theorems.{CalmIsFree, CalmAtBeginning, CalmAfterTurn, CalmAfterOther}
 use Rattle.grape_hub.proofs.Hubs.{state_grown}
 
@@ -22,22 +24,19 @@ calm_is_free h lane calm = any_none _ (worker_count (state_of h)) (λ i l. and_l
 
 -- ---- at the beginning
 
-pub calm_at_beginning : CalmAtBeginning
-calm_at_beginning h none i l =
-    let at : workers_of h ≡ base_state_of (beginning h) = ap (λ es. (state_at_end (machine h) (beginning h) es).workers) none in
-    let k : i < length (base_state_of (beginning h)) = subst (λ (ws : BaseState). i < length ws) at l in
-    ap (λ (ws : BaseState). is_running (worker_at ws i)) at ∙ resting i k
+-- a worker begins fresh or at rest
+begins_calm : (n : ℕ) (parts : List PartValues) (i : ℕ) → is_running (worker_at (map (worker_of n) parts) i) ≡ false
+begins_calm n [] i = refl
+begins_calm n (p ∷ parts) zero = of_phase p.phase
   where
-    starts : (pieces : List Piece) (n i : ℕ) → i < length pieces → is_running (worker_at (map (worker_of n) (map (fresh_part (machine h).equations) pieces)) i) ≡ false
-    starts [] n i k = absurd (omega (arith, k))
-    starts (p ∷ pieces) n zero k = refl
-    starts (p ∷ pieces) n (suc i) k = starts pieces n i (omega (arith, k))
+    of_phase : (phase : Phase) → is_running (record (worker_of n p) { standing = standing_of phase }) ≡ false
+    of_phase FreshPhase = refl
+    of_phase RestPhase = refl
+begins_calm n (p ∷ parts) (suc i) = begins_calm n parts i
 
-    resting : (i : ℕ) → i < length (base_state_of (beginning h)) → is_running (worker_at (base_state_of (beginning h)) i) ≡ false
-    resting i k =
-        let a = length-map (beginning h).parts (worker_of (length (beginning h).parts)) in
-        let b = length-map (machine h).pieces (fresh_part (machine h).equations) in
-        starts (machine h).pieces (length (beginning h).parts) i (omega (arith, a, b, k))
+pub calm_at_beginning : CalmAtBeginning
+calm_at_beginning h hub none i l =
+    ap (λ es. is_running (worker_at (state_at_end (machine h) h.start es).workers i)) none ∙ begins_calm (length h.start.parts) h.start.parts i
 
 -- ---- after an event
 

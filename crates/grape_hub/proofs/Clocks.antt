@@ -8,7 +8,7 @@ use Rattle.token_cut.specs.Parts.{SnapshotParts}
 use Rattle.base_machine.specs.Machine.{System}
 use Rattle.legal_journal.specs.Legal.{State, start_state, worker_count, state_after, rounds_after, arrivals_after, round_after, arrivals_at, sends_to, rests_without_mail}
 use Rattle.grape_hub.specs.HubValues.{HubValues}
-use Rattle.grape_hub.specs.States.{machine, beginning, state_of, IsHub}
+use Rattle.grape_hub.specs.States.{machine, state_of, IsHub}
 use Rattle.legal_journal.proofs.Walks.{kept_along}
 
 -- each round is at most the journal's length, and each batch arrived before now
@@ -84,4 +84,4 @@ in_time_begin start =
     }
 
 pub in_time : (h : HubValues) → IsHub h → AreInTime (state_of h)
-in_time h hub = kept_along (machine h) AreInTime (λ s e a t. in_time_kept (machine h) s e t) h.journal.events (start_state (beginning h)) hub.legal (in_time_begin (beginning h))
+in_time h hub = kept_along (machine h) AreInTime (λ s e a t. in_time_kept (machine h) s e t) h.journal.events (start_state h.start) hub.legal (in_time_begin h.start)

@@ -1,7 +1,6 @@
 -- What every hub keeps, and how it grows by an event.
 use Rattle.std.proofs.Common.{◌≡◌, ℕ, suc, ◌+◌, ◌<◌, ◌≤◌, true, false, cond, IsTrue, refl, sym, ◌∙◌, ap, subst, arith, List, [], ◌∷◌, length, reverse, slice_get, slice_set, slice_index_or, count_by, sum_by, Some}
-use Rattle.std.specs.List.{AllByRecursion}
-use mathlib.Core.List.{reverse-cons}
+use Rattle.std.specs.List.{AllZip}
 use Rattle.std.proofs.lemmas.List.{reverse-append}
 use Rattle.std.proofs.lemmas.List.Sums.{sum_by-cons, sum_by-set}
 use Rattle.std.proofs.lemmas.Bool.{and_parts}
@@ -9,14 +8,13 @@ use Rattle.std.proofs.lemmas.List.{length-map}
 use Rattle.std.proofs.lemmas.List.FromFn.{length-range_with_len}
 use Rattle.graph_core.specs.Fragments.{numbers_below, piece_of}
 use Rattle.graph_core.specs.declared.job.Job.{Job}
-use Rattle.graph_core.specs.declared.fragment.Route.{Route}
 use Rattle.graph_core.specs.Graphs.{IsJob}
 use Rattle.grape_event.specs.declared.event.Event.{Event}
 use Rattle.grape_event.specs.declared.event.Event.TheVariants.{End}
-use Rattle.base_machine.specs.Machine.{System, system_of, BaseState, Worker, worker_at, is_running, no_worker, fresh_snapshot, fresh_part}
-use Rattle.base_machine.proofs.Posts.{all_append}
+use Rattle.base_machine.specs.Machine.{System, system_of, BaseState, Worker, worker_at, is_running, no_worker}
+use Rattle.base_machine.specs.Fitness.{IsInForm, IsPartInForm}
+use Rattle.token_cut.specs.Parts.{SnapshotParts}
 use Rattle.legal_journal.specs.Past.{has_ended}
-use Rattle.stop_probe.specs.ProbeValues.{ProbeValues}
 use Rattle.grape_event.specs.Events.{is_last}
 use Rattle.legal_journal.specs.Legal.{State, start_state, state_at_end, state_after, worker_count, is_admitted, IsLegal}
 use Rattle.legal_journal.proofs.Walks.{kept_along, journals_grow}
@@ -25,25 +23,14 @@ use Rattle.grape_hub.specs.declared.desk.Desk.{Desk}
 use Rattle.grape_hub.specs.declared.desk.Seat.{Seat}
 use Rattle.grape_hub.specs.declared.desk.Seat.TheVariants.{Here, Out}
 use Rattle.grape_hub.specs.HubValues.{HubValues}
-use Rattle.grape_hub.specs.States.{machine, beginning, state_of, workers_of, is_built, works_out, IsHub}
-use Rattle.grape_hub.specs.Desks.{DeskFits, SeatFits, TablesFit, is_out}
+use Rattle.grape_hub.specs.States.{machine, state_of, works_out, events_owed, IsHub}
+use Rattle.grape_hub.specs.Desks.{DeskFits, SeatFits, Tables, TablesFit, is_out}
 use Rattle.grape_hub.specs.Calls.{Appended}
-use Rattle.grape_hub.proofs.Plain.{IsPlain, is_plain}
 
 -- ---- what holds of the state
 
-all_reversed : (P : Event → Type 0) (es : List Event) → AllByRecursion P es → AllByRecursion P (reverse es)
-all_reversed P [] h = tt
-all_reversed P (e ∷ es) h = subst (AllByRecursion P) (sym (reverse-cons e es)) (all_append P (reverse es) (e ∷ []) (all_reversed P es h.1) (h.0, tt))
-
 pub past_of : (h : HubValues) → (state_of h).past ≡ reverse h.journal.events
-past_of h = (journals_grow (machine h) (beginning h) h.journal.events End).0
-
-pub built_past : (h : HubValues) → IsHub h → AllByRecursion (λ e. is_built e ≡ true) (state_of h).past
-built_past h k = subst (AllByRecursion (λ e. is_built e ≡ true)) (sym (past_of h)) (all_reversed (λ e. is_built e ≡ true) h.journal.events k.built)
-
-pub plain_of : (h : HubValues) → IsHub h → IsPlain (machine h) (state_of h)
-plain_of h k = is_plain (machine h) (state_of h) k.snapshot (built_past h k)
+past_of h = (journals_grow (machine h) h.start h.journal.events End).0
 
 -- the state's journal has ended where the hub's has
 pub ended_is : (h : HubValues) → has_ended (state_of h).past ≡ has_ended (reverse h.journal.events)
@@ -51,16 +38,28 @@ ended_is h = ap (λ (past : List Event). has_ended past) (past_of h)
 
 pub counted_of : (h : HubValues) → IsHub h → AreCounted (worker_count (state_of h)) (state_of h)
 counted_of h k =
-    let n = length (beginning h).parts in
+    let n = length h.start.parts in
     counted_here n (state_of h)
-    (kept_along (machine h) (AreCounted n) (λ s e a c. event_counted n (machine h) s e (and_parts _ _ a).1 c) h.journal.events (start_state (beginning h)) k.legal (start_counted (beginning h)))
+    (kept_along (machine h) (AreCounted n) (λ s e a c. event_counted n (machine h) s e (and_parts _ _ a).1 c) h.journal.events (start_state h.start) k.legal (start_counted h.start))
+
+pub zipped_length : {X Y : Type 0} (P : X → Y → Type 0) (xs : List X) (ys : List Y) → AllZip P xs ys → length xs ≡ length ys
+zipped_length P [] [] h = refl
+zipped_length P [] (y ∷ ys) h = absurd h
+zipped_length P (x ∷ xs) [] h = absurd h
+zipped_length P (x ∷ xs) (y ∷ ys) h = let e = zipped_length P xs ys h.1 in omega (arith, e)
+
+pub piece_count : (h : HubValues) → length (machine h).pieces ≡ h.job.settings.fragments
+piece_count h = length-map (numbers_below h.job.settings.fragments) (piece_of h.job) ∙ length-range_with_len 0 h.job.settings.fragments
+
+-- a part for each fragment
+pub part_count : (h : HubValues) → IsHub h → length h.start.parts ≡ h.job.settings.fragments
+part_count h k = sym (zipped_length (IsPartInForm (machine h)) (machine h).pieces h.start.parts k.start.parts) ∙ piece_count h
 
 -- as many workers as fragments
 pub workers_are : (h : HubValues) → IsHub h → worker_count (state_of h) ≡ h.job.settings.fragments
 workers_are h k =
-    let n = length (beginning h).parts in
-    (kept_along (machine h) (AreCounted n) (λ s e a c. event_counted n (machine h) s e (and_parts _ _ a).1 c) h.journal.events (start_state (beginning h)) k.legal (start_counted (beginning h))).count
-    ∙ (length-map (machine h).pieces (fresh_part (machine h).equations) ∙ (length-map (numbers_below h.job.settings.fragments) (piece_of h.job) ∙ length-range_with_len 0 h.job.settings.fragments))
+    let n = length h.start.parts in
+    (kept_along (machine h) (AreCounted n) (λ s e a c. event_counted n (machine h) s e (and_parts _ _ a).1 c) h.journal.events (start_state h.start) k.legal (start_counted h.start)).count ∙ part_count h k
 
 pub few_workers : (h : HubValues) → IsHub h → worker_count (state_of h) ≤ 64
 few_workers h k = let w = workers_are h k in let f = k.job.settings.fragments.1 in omega (arith, w, f)
@@ -73,29 +72,23 @@ module _ (old new : HubValues) (e : Event) (more : Appended old e new) where
 
   pub state_grown : state_of new ≡ state_after (machine old) (state_of old) e
   state_grown =
-      ap (λ (job : Job). state_at_end (system_of job) (fresh_snapshot (system_of job)) new.journal.events) more.0
-      ∙ (ap (λ l. state_at_end (machine old) (beginning old) l) more.2 ∙ (journals_grow (machine old) (beginning old) old.journal.events e).1)
+      ap (λ (job : Job). state_at_end (system_of job) new.start new.journal.events) more.0
+      ∙ (ap (λ (start : SnapshotParts). state_at_end (machine old) start new.journal.events) more.3
+      ∙ (ap (λ l. state_at_end (machine old) old.start l) more.2 ∙ (journals_grow (machine old) old.start old.journal.events e).1))
 
   -- the journal has ended where the event is a last one
   ends_with : has_ended (reverse new.journal.events) ≡ is_last e
   ends_with = ap (λ (es : List Event). has_ended (reverse es)) more.2 ∙ ap (λ (es : List Event). has_ended es) (reverse-append old.journal.events (e ∷ []))
 
-  pub hub_grown : IsHub old → IsTrue (is_admitted (machine old) (state_of old) e) → is_built e ≡ true → (is_last e ≡ false → works_out (workers_of new) + 1 ≤ new.journal.spare) → IsHub new
-  hub_grown k a b room = record {
+  pub hub_grown : IsHub old → IsTrue (is_admitted (machine old) (state_of old) e) → (is_last e ≡ false → events_owed (state_after (machine old) (state_of old) e) ≤ new.journal.spare) → IsHub new
+  hub_grown k a room = record {
     job = subst IsJob (sym more.0) k.job;
-    snapshot = ap (λ (job : Job). job.settings.snapshot) more.0 ∙ k.snapshot;
-    legal = subst (λ (job : Job). IsLegal (system_of job) (fresh_snapshot (system_of job)) new.journal.events) (sym more.0)
-        (subst (IsLegal (machine old) (beginning old)) (sym more.2) ((journals_grow (machine old) (beginning old) old.journal.events e).2.1 (k.legal, a)));
-    built = subst (AllByRecursion (λ e. is_built e ≡ true)) (sym more.2) (all_append (λ e. is_built e ≡ true) old.journal.events (e ∷ []) k.built (b, tt));
-    room = λ going. room (sym ends_with ∙ going);
+    start = subst (λ (job : Job). IsInForm (system_of job) new.start) (sym more.0) (subst (λ (start : SnapshotParts). IsInForm (machine old) start) (sym more.3) k.start);
+    legal = subst (λ (job : Job). IsLegal (system_of job) new.start new.journal.events) (sym more.0)
+        (subst (λ (start : SnapshotParts). IsLegal (machine old) start new.journal.events) (sym more.3)
+        (subst (IsLegal (machine old) old.start) (sym more.2) ((journals_grow (machine old) old.start old.journal.events e).2.1 (k.legal, a))));
+    room = λ going. let r = room (sym ends_with ∙ going) in let g = ap {B = ℕ} (λ (s : State). events_owed s) state_grown in omega (arith, r, g);
   }
-
--- a hub with more room
-pub hub_roomier : (old new : HubValues) → new.job ≡ old.job → new.journal.events ≡ old.journal.events → old.journal.spare ≤ new.journal.spare → IsHub old → IsHub new
-hub_roomier old new same_job same_events more k =
-    let P : Job → List Event → Type 0 = λ job es. IsHub (record { job = job; counters = new.counters; journal = record { events = es; spare = new.journal.spare } }) in
-    let here : P old.job old.journal.events = record { job = k.job; snapshot = k.snapshot; legal = k.legal; built = k.built; room = λ going. let r = k.room going in omega (arith, r, more) } in
-    subst (λ job. P job new.journal.events) (sym same_job) (subst (λ es. P old.job es) (sym same_events) here)
 
 -- ---- how many are out
 
@@ -123,5 +116,5 @@ counts_same (d ∷ desks) (w ∷ ws) e h =
     let r = counts_same desks ws (omega (arith, e)) (λ i x g. h (suc i) x g) in
     a ∙ (ap (λ n. n + sum_by (λ (x : Desk). cond (is_out x) 1 0) desks) c ∙ (ap (λ n. cond (is_running w) 1 0 + n) r ∙ sym b))
 
-pub out_is : (sys : System) (s : State) (counters : ℕ) (routes : List (List (List Route))) (desks : List Desk) (probe : ProbeValues) (turn : ℕ) → TablesFit sys s counters routes desks probe turn → count_by is_out desks ≡ works_out s.workers
-out_is sys s counters routes desks probe turn f = counts_same desks s.workers f.count (λ i d g. seat_out sys s counters i d (f.fit i d g))
+pub out_is : (sys : System) (s : State) (counters : ℕ) (t : Tables) → TablesFit sys s counters t → count_by is_out t.desks ≡ works_out s.workers
+out_is sys s counters t f = counts_same t.desks s.workers f.count (λ i d g. seat_out sys s counters i d (f.fit i d g))

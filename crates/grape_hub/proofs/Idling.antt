@@ -1,12 +1,11 @@
 -- Where nobody is out and a lane has nothing to do, every worker rests and no mail waits; and when somebody can go on.
-use Rattle.std.proofs.Common.{◌≡◌, ℕ, true, false, not, refl, ◌∙◌, ap, subst, arith, List, [], ◌∷◌, ◌++◌, reverse, None}
-use Rattle.std.specs.List.{AllByRecursion}
-use Rattle.std.proofs.lemmas.Bool.{and_from, not_from_false, false≢true}
+use Rattle.std.proofs.Common.{◌≡◌, ℕ, ◌-◌, ◌^◌, true, false, not, ◌&&◌, nat_lt, nat_le, ◌∙◌, ap, subst, arith, List, [], ◌∷◌, ◌++◌, reverse, None}
+use Rattle.std.proofs.lemmas.Bool.{and_from, not_from_false, false_from_ne_true}
 use Rattle.grape_event.specs.declared.event.Event.{Event}
-use Rattle.grape_event.specs.declared.event.Event.TheVariants.{Take, Give, Stretch, Hold, Flag, Ask, Ack, Nack, Begin, Mark, Seal, Kept, End, Stop}
+use Rattle.grape_event.specs.declared.event.Event.TheVariants.{End}
 use Rattle.base_machine.specs.Fitness.{is_quiet}
-use Rattle.legal_journal.specs.Past.{has_ended, was_sealed}
-use Rattle.legal_journal.specs.Legal.{State, row_admits, state_at_end, IsLegal}
+use Rattle.legal_journal.specs.Past.{has_ended, recording_is_open, last_epoch, takes_since_begin}
+use Rattle.legal_journal.specs.Legal.{State, snapshot_is_due, row_admits, state_at_end, IsLegal}
 use Rattle.legal_journal.specs.Choices.{is_of_lane}
 use Rattle.legal_journal.proofs.Walks.{journals_grow}
 use Rattle.legal_journal.proofs.Probes.{both, count_after, quiet_from}
@@ -14,11 +13,11 @@ use Rattle.legal_journal.proofs.Probes as probes
 use Rattle.legal_journal.proofs.Choosing.{some-none, all_rest, lane_choices_are_exact}
 use Rattle.legal_journal.proofs.Choosing as choosing
 use Rattle.grape_hub.specs.HubValues.{HubValues}
-use Rattle.grape_hub.specs.States.{machine, beginning, state_of, workers_of, is_built}
+use Rattle.grape_hub.specs.States.{machine, state_of, workers_of, IsHub}
 use Rattle.grape_hub.specs.Choices.{MayChoose}
 use Rattle.grape_hub.specs.Theorems.{IdleIsQuiet, OneLaneGoesOn, EndIsQuiet}
-use Rattle.grape_hub.proofs.Hubs.{past_of, built_past, plain_of, ended_is}
-use Rattle.grape_hub.proofs.Plain.{none_due}
+use Rattle.grape_hub.proofs.Hubs.{ended_is}
+use Rattle.grape_hub.proofs.Snapshots.{snapshots_of, all_sealed_are_kept}
 
 -- ---- a lane without a choice
 
@@ -29,45 +28,35 @@ refuses h lane going none e of_lane row =
     both (and_from (not (has_ended (state_of h).past)) (row_admits (machine h) (state_of h) e) (not_from_false _ (ended_is h ∙ going)) row)
     ((lane_choices_are_exact (machine h) (state_of h) lane none.0 none.1).1 none.2 e of_lane)
 
+-- without snapshots no recording is open, and none is due
+never_open : (h : HubValues) → IsHub h → h.job.settings.snapshot ≡ 0 → recording_is_open (state_of h).past ≡ false
+never_open h hub none = false_from_ne_true (recording_is_open (state_of h).past) (λ o. let a = (snapshots_of h hub).asked o in absurd (omega (arith, a, none)))
+
+never_due : (h : HubValues) → h.job.settings.snapshot ≡ 0 → snapshot_is_due (machine h) (state_of h) ≡ false
+never_due h none =
+    let s = state_of h in
+    ap (λ every. nat_lt 0 every && nat_le every (takes_since_begin s.past) && nat_lt (last_epoch s.start.epoch s.past) (2 ^ 62 - 1)) none
+
 pub idle_is_quiet : IdleIsQuiet
-idle_is_quiet h lane hub calm going lane_in none =
-    let plain = plain_of h hub in
+idle_is_quiet h lane hub without calm going lane_in none =
     quiet_from (workers_of h)
     (all_rest (machine h) (state_of h) lane
     (record {
       lane_in_range = lane_in;
       calm = calm;
-      closed = plain.closed;
-      not_due = none_due (machine h) (state_of h) plain;
+      closed = never_open h hub without;
+      not_due = never_due h without;
       refuses = refuses h lane going none;
     }))
 
 -- ---- one lane alone
 
-never_sealed : (past : List Event) → AllByRecursion (λ e. is_built e ≡ true) past → (epoch : ℕ) → was_sealed epoch past ≡ false
-never_sealed [] h epoch = refl
-never_sealed (Take i k ∷ past) h epoch = never_sealed past h.1 epoch
-never_sealed (Give i ∷ past) h epoch = never_sealed past h.1 epoch
-never_sealed (Stretch i t ∷ past) h epoch = never_sealed past h.1 epoch
-never_sealed (Hold i ∷ past) h epoch = never_sealed past h.1 epoch
-never_sealed (Flag i ∷ past) h epoch = never_sealed past h.1 epoch
-never_sealed (Ask ∷ past) h epoch = never_sealed past h.1 epoch
-never_sealed (Ack i ∷ past) h epoch = never_sealed past h.1 epoch
-never_sealed (Nack i ∷ past) h epoch = never_sealed past h.1 epoch
-never_sealed (Begin e ∷ past) h epoch = absurd (false≢true h.0)
-never_sealed (Mark i ∷ past) h epoch = absurd (false≢true h.0)
-never_sealed (Seal e ∷ past) h epoch = absurd (false≢true h.0)
-never_sealed (Kept e ∷ past) h epoch = absurd (false≢true h.0)
-never_sealed (End ∷ past) h epoch = never_sealed past h.1 epoch
-never_sealed (Stop c ∷ past) h epoch = never_sealed past h.1 epoch
-
 pub one_lane_goes_on : OneLaneGoesOn
-one_lane_goes_on h lane hub calm going lane_in no_duty none =
-    let count = count_after (machine h) (beginning h) h.journal.events hub.legal in
-    let built = subst (AllByRecursion (λ e. is_built e ≡ true)) (past_of h) (built_past h hub) in
+one_lane_goes_on h lane hub calm all_kept going lane_in no_duty none =
+    let count = count_after (machine h) h.start h.journal.events hub.legal in
     let choice =
-    choosing.one_lane_goes_on (machine h) (beginning h) h.journal.events lane none.0 lane_in none.1 hub.legal going (λ i l. calm i (omega (arith, l, count)))
-    (λ epoch sealed. absurd (both sealed (never_sealed (reverse h.journal.events) built epoch))) no_duty in
+    choosing.one_lane_goes_on (machine h) h.start h.journal.events lane none.0 lane_in none.1 hub.legal going (λ i l. calm i (omega (arith, l, count)))
+    (all_sealed_are_kept h hub all_kept) no_duty in
     some-none _ choice.0 choice.1 none.2
 
 -- ---- the end
@@ -75,7 +64,7 @@ one_lane_goes_on h lane hub calm going lane_in no_duty none =
 pub end_is_quiet : EndIsQuiet
 end_is_quiet h journal hub ends =
     let sys = machine h in
-    let start = beginning h in
+    let start = h.start in
     let before = probes.end_is_quiet sys start journal (subst (IsLegal sys start) ends hub.legal) in
     let same : state_of h ≡ state_at_end sys start (journal ++ End ∷ []) = ap (λ (es : List Event). state_at_end sys start es) ends in
     ap (λ (s : State). is_quiet s.workers) same ∙ (ap (λ (s : State). is_quiet s.workers) (journals_grow sys start journal End).1 ∙ before.0)

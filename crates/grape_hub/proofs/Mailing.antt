@@ -1,46 +1,57 @@
 -- Desks while posts are sent to them.
-use Rattle.std.proofs.Common.{◌≡◌, ◌≢◌, ℕ, zero, suc, ◌+◌, ◌<◌, ◌≤◌, ◌⊎◌, inl, inr, Bool, true, false, not, ◌==◌, ◌||◌, if◌then◌else◌, refl, sym, ◌∙◌, ap, subst, arith, add-one, List, [], ◌∷◌, ◌++◌, length, map, filter, take, append_assoc, length-set, slice_index, slice_index_or, slice_set, All, Some, slice_get, replicate}
-use Rattle.std.proofs.lemmas.Bool.{cases_lt, eq-eqb, eqb-true, ne_eqb}
+use Rattle.std.proofs.Common.{◌≡◌, ◌≢◌, ℕ, zero, suc, ◌+◌, ◌<◌, ◌≤◌, ◌⊎◌, inl, inr, Bool, true, false, not, ◌==◌, ◌&&◌, ◌||◌, cond, if◌then◌else◌, refl, sym, ◌∙◌, ap, subst, arith, add-one, List, [], ◌∷◌, ◌++◌, length, map, filter, take, append_assoc, length-set, slice_index, slice_index_or, slice_set, All, Some, slice_get, replicate}
+use Rattle.std.proofs.lemmas.Bool.{cases_lt, cases_eq, eq-eqb, eqb-true, ne_eqb}
 use Rattle.std.proofs.lemmas.Option.{slice_get-get_or, slice_get_within, get_or_from_slice_get}
 use Rattle.std.proofs.lemmas.List.{append-nil, take_all, map-append, length-map, get_or-map, get_or-replicate}
 use Rattle.std.proofs.lemmas.List.Elements.{filter-append, All-get_or}
 use Rattle.std.proofs.Math.Seq.{take-suc}
+use Rattle.value_order.specs.declared.order.Order.{Order}
 use Rattle.value_order.specs.Order.{meet_of}
 use Rattle.graph_core.specs.declared.fragment.Route.{Route}
 use Rattle.message_buffer.specs.BufferValues.{BufferValues}
-use Rattle.message_buffer.specs.Buffers.{with_post}
-use Rattle.base_machine.specs.Machine.{Post, posts_to, is_empty}
+use Rattle.message_buffer.specs.Buffers.{with_batch, with_post}
+use Rattle.token_cut.specs.Parts.{PartValues, part_at}
+use Rattle.token_cut.specs.CutValues.{CutValues}
+use Rattle.token_cut.specs.Recording.{after_late}
+use Rattle.token_cut.specs.Late.{LateValue, late_values, mail_lowered, parts_lowered, lowered_by}
+use Rattle.token_cut.proofs.Lowering.{late_values_are_met, late_elsewhere}
+use Rattle.base_machine.specs.Machine.{Post, posts_to, values_for, is_empty}
 use Rattle.grape_hub.specs.declared.desk.Desk.{Desk}
 use Rattle.grape_hub.specs.declared.sender.Sender.{Sender}
 use Rattle.grape_hub.specs.Desks.{with_arrival}
-use Rattle.grape_hub.specs.Posting.{with_posts, with_more, with_batch_of, posted_from, posted, mirror_counts, LeadToDesks, CanReceive, AllCanReceive, with_mail, mailed_from, mailed, AreBegun, posts_along, CanBegin}
+use Rattle.grape_hub.specs.Posting.{with_posts, with_more, with_batch_of, posted_from, posted, mirror_counts, LeadToDesks, CanReceive, AllCanReceive, with_mail, mailed_from, mailed, AreBegun, posts_along, CanBegin, is_late_at, late_posts, recorded_with, mails_in, HasMailOf}
 
 -- ---- one desk
 
-pub with_posts-append : (xs ys : List Post) (b : BufferValues) → with_posts ys (with_posts xs b) ≡ with_posts (xs ++ ys) b
-with_posts-append [] ys b = refl
-with_posts-append (p ∷ xs) ys b = with_posts-append xs ys (with_post false p.mirror p.value b)
+pub with_posts-append : (tagged : Bool) (xs ys : List Post) (b : BufferValues) → with_posts tagged ys (with_posts tagged xs b) ≡ with_posts tagged (xs ++ ys) b
+with_posts-append tagged [] ys b = refl
+with_posts-append tagged (p ∷ xs) ys b = with_posts-append tagged xs ys (with_post tagged p.mirror p.value b)
 
-with_more-append : (xs ys : List Post) (d : Desk) → with_more ys (with_more xs d) ≡ with_more (xs ++ ys) d
-with_more-append xs ys d = ap (λ (b : BufferValues). record d { buffer = b }) (with_posts-append xs ys d.buffer)
+with_more-append : (tagged : Bool) (xs ys : List Post) (d : Desk) → with_more tagged ys (with_more tagged xs d) ≡ with_more tagged (xs ++ ys) d
+with_more-append tagged xs ys d = ap (λ (b : BufferValues). record d { buffer = b }) (with_posts-append tagged xs ys d.buffer)
 
 with_mail-more : (sender : Sender) (begun : Bool) (xs ys : List Post) (d : Desk) → with_mail sender (begun || not (is_empty xs)) ys (with_mail sender begun xs d) ≡ with_mail sender begun (xs ++ ys) d
-with_mail-more sender true xs ys d = with_more-append xs ys d
+with_mail-more sender true xs ys d = with_more-append sender.tagged xs ys d
 with_mail-more sender false [] ys d = refl
-with_mail-more sender false (p ∷ xs) ys d = with_more-append (p ∷ xs) ys (with_arrival sender.place sender.round d)
+with_mail-more sender false (p ∷ xs) ys d = with_more-append sender.tagged (p ∷ xs) ys (with_arrival sender d)
 
 with_mail-none : (sender : Sender) (begun : Bool) (d : Desk) → with_mail sender begun [] d ≡ d
 with_mail-none sender true d = refl
 with_mail-none sender false d = refl
 
-pub with_posts-length : (xs : List Post) (b : BufferValues) → length (with_posts xs b).plain ≡ length b.plain
-with_posts-length [] b = refl
-with_posts-length (p ∷ xs) b = with_posts-length xs (with_post false p.mirror p.value b) ∙ length-set b.plain p.mirror (meet_of b.order (slice_index b.plain p.mirror) p.value)
+pub with_posts-length : (tagged : Bool) (xs : List Post) (b : BufferValues) → length (with_posts tagged xs b).plain ≡ length b.plain
+with_posts-length tagged [] b = refl
+with_posts-length true (p ∷ xs) b = with_posts-length true xs (with_post true p.mirror p.value b)
+with_posts-length false (p ∷ xs) b = with_posts-length false xs (with_post false p.mirror p.value b) ∙ length-set b.plain p.mirror (meet_of b.order (slice_index b.plain p.mirror) p.value)
+
+with_batch-length : (tagged : Bool) (b : BufferValues) → length (with_batch tagged b).plain ≡ length b.plain
+with_batch-length true b = refl
+with_batch-length false b = refl
 
 with_mail-length : (sender : Sender) (begun : Bool) (xs : List Post) (d : Desk) → length (with_mail sender begun xs d).buffer.plain ≡ length d.buffer.plain
-with_mail-length sender true xs d = with_posts-length xs d.buffer
+with_mail-length sender true xs d = with_posts-length sender.tagged xs d.buffer
 with_mail-length sender false [] d = refl
-with_mail-length sender false (p ∷ xs) d = with_posts-length (p ∷ xs) (with_arrival sender.place sender.round d).buffer
+with_mail-length sender false (p ∷ xs) d = with_posts-length sender.tagged (p ∷ xs) (with_arrival sender d).buffer ∙ with_batch-length sender.tagged d.buffer
 
 -- ---- all desks
 
@@ -127,6 +138,107 @@ pub one_mailed : (sender : Sender) (begun : List Bool) (route : Route) (value : 
     slice_set desks route.fragment d ≡ mailed sender begun (λ k. posts_along k value (route ∷ [])) desks
 one_mailed sender begun route value e desks d h s = ap (slice_set desks route.fragment) s ∙ one_from sender 0 route.fragment begun route value e desks (omega arith) h
 
+-- ---- what is late
+
+pub values_for-append : (m : ℕ) (xs ys : List Post) → values_for m (xs ++ ys) ≡ values_for m xs ++ values_for m ys
+values_for-append m xs ys =
+    ap (λ l. map {B = ℕ} (λ (p : Post). p.value) l) (filter-append (λ (p : Post). p.mirror == m) xs ys)
+    ∙ map-append (λ (p : Post). p.value) (filter (λ (p : Post). p.mirror == m) xs) (filter (λ (p : Post). p.mirror == m) ys)
+
+-- whatever came, where it is the same
+recorded_by : (f g : ℕ → ℕ → List ℕ) (cut : CutValues) → ((k m : ℕ) → f k m ≡ g k m) → lowered_by f cut ≡ lowered_by g cut
+recorded_by f g cut h = λ i. lowered_by (λ k m. h k m i) cut
+
+-- posts after others
+pub recorded_more : (sender : Sender) (xs ys : ℕ → List Post) (cut : CutValues) → recorded_with sender ys (recorded_with sender xs cut) ≡ recorded_with sender (λ j. xs j ++ ys j) cut
+recorded_more sender xs ys cut =
+    late_values_are_met.joined (late_posts sender cut xs) (late_posts sender cut ys) cut
+    ∙ recorded_by (λ k m. late_posts sender cut xs k m ++ late_posts sender cut ys k m) (late_posts sender cut (λ j. xs j ++ ys j)) cut (λ k m. go (is_late_at sender cut k) (xs k) (ys k) m)
+  where
+    go : (b : Bool) (ps qs : List Post) (m : ℕ) → (if b then values_for m ps else []) ++ (if b then values_for m qs else []) ≡ (if b then values_for m (ps ++ qs) else [])
+    go true ps qs m = sym (values_for-append m ps qs)
+    go false ps qs m = refl
+
+pub recorded_same : (sender : Sender) (xs ys : ℕ → List Post) (cut : CutValues) → ((j : ℕ) → xs j ≡ ys j) → recorded_with sender xs cut ≡ recorded_with sender ys cut
+recorded_same sender xs ys cut h =
+    recorded_by (late_posts sender cut xs) (late_posts sender cut ys) cut (λ k m. ap (λ ps. if is_late_at sender cut k then values_for m ps else []) (h k))
+
+none_late : (b : Bool) (ps : List ℕ) → ps ≡ [] → (if b then ps else []) ≡ []
+none_late true ps h = h
+none_late false ps h = refl
+
+pub recorded_none : (sender : Sender) (xs : ℕ → List Post) (cut : CutValues) → ((j : ℕ) → xs j ≡ []) → recorded_with sender xs cut ≡ cut
+recorded_none sender xs cut h =
+    recorded_by (late_posts sender cut xs) (λ k m. []) cut (λ k m. none_late (is_late_at sender cut k) (values_for m (xs k)) (ap (values_for m) (h k)))
+    ∙ late_values_are_met.none cut
+
+-- late values leave how much mail there is
+pub mail_length : (o : Order) (m : ℕ) (came : ℕ → List ℕ) (mail : List ℕ) → length (mail_lowered o m came mail) ≡ length mail
+mail_length o m came [] = refl
+mail_length o m came (x ∷ mail) = let e = mail_length o (m + 1) came mail in omega (arith, e)
+
+mails_stay : (o : Order) (k : ℕ) (came : ℕ → ℕ → List ℕ) (parts : List PartValues) → mails_in (parts_lowered o k came parts) ≡ mails_in parts
+mails_stay o k came [] = refl
+mails_stay o k came (part ∷ parts) =
+    let here = mail_length o 0 (came k) part.mail in
+    let rest = mails_stay o (k + 1) came parts in
+    λ i. here i ∷ rest i
+
+pub recorded_mails : (sender : Sender) (xs : ℕ → List Post) (cut : CutValues) → mails_in (recorded_with sender xs cut).parts ≡ mails_in cut.parts
+recorded_mails sender xs cut = mails_stay cut.order 0 (late_posts sender cut xs) cut.parts
+
+-- one late post
+pub late_is_recorded : (sender : Sender) (route : Route) (value : ℕ) (cut : CutValues) → is_late_at sender cut route.fragment ≡ true → after_late route.fragment route.mirror value cut ≡ recorded_with sender (alone route value) cut
+late_is_recorded sender route value cut late =
+    late_values_are_met.all (l ∷ []) cut
+    ∙ recorded_by (λ k m. late_values k m (l ∷ [])) (late_posts sender cut (alone route value)) cut
+    (λ k m. elim (cases_eq k route.fragment) [
+      | inl e ↦
+          let P : ℕ → Type 0 = λ n. late_values n m (l ∷ []) ≡ late_posts sender cut (alone route value) n m in
+          subst P (sym e) (here m)
+      | inr n ↦
+          late_elsewhere l [] k m (ne_eqb route.fragment k (λ e. n (sym e)))
+          ∙ sym (none_late (is_late_at sender cut k) (values_for m (alone route value k)) (ap (values_for m) (alone_elsewhere route value k n)))
+    ])
+  where
+    l : LateValue
+    l = record { worker = route.fragment; mirror = route.mirror; value = value }
+
+    post : Post
+    post = record { mirror = route.mirror; value = value }
+
+    here : (m : ℕ) → late_values route.fragment m (l ∷ []) ≡ late_posts sender cut (alone route value) route.fragment m
+    here m =
+        ap (λ b. map {B = ℕ} (λ (x : LateValue). x.value) (cond (b && (route.mirror == m)) (l ∷ []) [])) (eq-eqb route.fragment route.fragment refl)
+        ∙ (go (route.mirror == m)
+        ∙ (ap (values_for m) (sym (alone_here route value)) ∙ ap (λ b. if b then values_for m (alone route value route.fragment) else []) (sym late)))
+      where
+        go : (c : Bool) → map {B = ℕ} (λ (x : LateValue). x.value) (cond c (l ∷ []) []) ≡ map {B = ℕ} (λ (p : Post). p.value) (cond c (post ∷ []) [])
+        go true = refl
+        go false = refl
+
+-- a post that isn't late
+pub nothing_recorded : (sender : Sender) (route : Route) (value : ℕ) (cut : CutValues) → is_late_at sender cut route.fragment ≡ false → cut ≡ recorded_with sender (alone route value) cut
+nothing_recorded sender route value cut late =
+    sym (recorded_by (late_posts sender cut (alone route value)) (λ k m. []) cut
+    (λ k m. elim (cases_eq k route.fragment) [
+      | inl e ↦
+          let P : ℕ → Type 0 = λ n. late_posts sender cut (alone route value) n m ≡ [] in
+          subst P (sym e) (ap (λ b. if b then values_for m (alone route value route.fragment) else []) late)
+      | inr n ↦ none_late (is_late_at sender cut k) (values_for m (alone route value k)) (ap (values_for m) (alone_elsewhere route value k n))
+    ])
+    ∙ late_values_are_met.none cut)
+
+-- ---- what the calls ask of the recording
+
+pub part_is_there : (parts : List PartValues) (route : Route) → route.mirror < slice_index (mails_in parts) route.fragment → (route.fragment < length parts) × (route.mirror < length (part_at route.fragment parts).mail)
+part_is_there parts route h = go parts route.fragment h
+  where
+    go : (parts : List PartValues) (k : ℕ) → route.mirror < slice_index (mails_in parts) k → (k < length parts) × (route.mirror < length (part_at k parts).mail)
+    go [] k h = absurd (omega (arith, h))
+    go (part ∷ parts) zero h = (omega arith, h)
+    go (part ∷ parts) (suc k) h = let r = go parts k h in let a = r.0 in (omega (arith, a), r.1)
+
 -- ---- what the calls ask of the desks
 
 pub desk_is_there : (desks : List Desk) (route : Route) → route.mirror < slice_index (mirror_counts desks) route.fragment → route.fragment < length desks
@@ -152,21 +264,29 @@ can_begin place begun desks i e room h f = room i (slice_index_or desks i e) (sl
 
 -- ---- after some posts
 
--- the desks got these posts, and batches were begun for those that got some
-pub record AreMailed (sender : Sender) (before : List Bool) (olds : List Desk) (posts : ℕ → List Post) (begun : List Bool) (desks : List Desk) : Type 0 where
+-- the desks got these posts, and batches were begun for those that got some; what was late is recorded
+pub record AreMailed (sender : Sender) (before : List Bool) (olds : List Desk) (first : CutValues) (posts : ℕ → List Post) (begun : List Bool) (desks : List Desk) (cut : CutValues) : Type 0 where
   pub mail : desks ≡ mailed sender before posts olds
   pub batches : AreBegun before posts begun
+  pub late : cut ≡ recorded_with sender posts first
 
-pub mailed_more : (sender : Sender) (before begun begun' : List Bool) (olds desks desks' : List Desk) (xs ys zs : ℕ → List Post) → AreMailed sender before olds xs begun desks → length olds ≤ 64 →
-    desks' ≡ mailed sender begun ys desks → AreBegun begun ys begun' → ((j : ℕ) → xs j ++ ys j ≡ zs j) → AreMailed sender before olds zs begun' desks'
-mailed_more sender before begun begun' olds desks desks' xs ys zs m few d b e =
+pub mailed_more : (sender : Sender) (before begun begun' : List Bool) (olds desks desks' : List Desk) (first cut cut' : CutValues) (xs ys zs : ℕ → List Post) → AreMailed sender before olds first xs begun desks cut → length olds ≤ 64 →
+    desks' ≡ mailed sender begun ys desks → AreBegun begun ys begun' → cut' ≡ recorded_with sender ys cut → ((j : ℕ) → xs j ++ ys j ≡ zs j) → AreMailed sender before olds first zs begun' desks' cut'
+mailed_more sender before begun begun' olds desks desks' first cut cut' xs ys zs m few d b r e =
     record {
+      late = r ∙ (ap (recorded_with sender ys) m.late ∙ (recorded_more sender xs ys first ∙ recorded_same sender (λ j. xs j ++ ys j) zs first e));
       mail = d ∙ (ap (mailed sender begun ys) m.mail ∙ (mailed_from-more sender 0 before begun xs ys olds m.batches (omega (arith, few)) ∙ mailed_from-same sender 0 before (λ j. xs j ++ ys j) zs olds e));
       batches = begun_same before begun' (λ j. xs j ++ ys j) zs e (begun_more before begun begun' xs ys m.batches b);
     }
 
-pub mailed_counts : (sender : Sender) (before begun : List Bool) (olds desks : List Desk) (xs : ℕ → List Post) → AreMailed sender before olds xs begun desks → mirror_counts desks ≡ mirror_counts olds
-mailed_counts sender before begun olds desks xs m = ap mirror_counts m.mail ∙ mailed_from-counts sender 0 before xs olds
+pub mailed_counts : (sender : Sender) (before begun : List Bool) (olds desks : List Desk) (first cut : CutValues) (xs : ℕ → List Post) → AreMailed sender before olds first xs begun desks cut → mirror_counts desks ≡ mirror_counts olds
+mailed_counts sender before begun olds desks first cut xs m = ap mirror_counts m.mail ∙ mailed_from-counts sender 0 before xs olds
+
+-- the recording has the mail of each desk still
+pub mailed_mails : (sender : Sender) (before begun : List Bool) (olds desks : List Desk) (first cut : CutValues) (xs : ℕ → List Post) → AreMailed sender before olds first xs begun desks cut → HasMailOf olds first → HasMailOf desks cut
+mailed_mails sender before begun olds desks first cut xs m has going =
+    ap (λ (c : CutValues). mails_in c.parts) m.late
+    ∙ (recorded_mails sender xs first ∙ (has (sym (ap (λ (c : CutValues). c.recording) m.late) ∙ going) ∙ sym (mailed_counts sender before begun olds desks first cut xs m)))
 
 mailed_at : (sender : Sender) (k i : ℕ) (before : List Bool) (xs : ℕ → List Post) (olds : List Desk) (d : Desk) → slice_get (mailed_from sender k before xs olds) i ≡ Some d →
     (e : Desk) × (slice_get olds i ≡ Some e) × (d ≡ with_mail sender (slice_index_or before (k + i) false) (xs (k + i)) e)
@@ -185,8 +305,8 @@ not_begun sender true xs d h = cc
 not_begun sender false [] d h = (refl, refl)
 not_begun sender false (x ∷ xs) d h = cc
 
-pub mailed_can_begin : (sender : Sender) (before begun : List Bool) (olds desks : List Desk) (xs : ℕ → List Post) → AreMailed sender before olds xs begun desks → length olds ≤ 64 → CanBegin sender.place before olds → CanBegin sender.place begun desks
-mailed_can_begin sender before begun olds desks xs m few room k d there no_batch =
+pub mailed_can_begin : (sender : Sender) (before begun : List Bool) (olds desks : List Desk) (first cut : CutValues) (xs : ℕ → List Post) → AreMailed sender before olds first xs begun desks cut → length olds ≤ 64 → CanBegin sender.place before olds → CanBegin sender.place begun desks
+mailed_can_begin sender before begun olds desks first cut xs m few room k d there no_batch =
     let at = mailed_at sender 0 k before xs olds d (ap (λ l. slice_get l k) (sym m.mail) ∙ there) in
     let n : 0 + k ≡ k = omega arith in
     let same = at.2 ∙ ap (λ j. with_mail sender (slice_index_or before j false) (xs j) at.0) n in
@@ -205,9 +325,10 @@ along_more k value row i d h =
     ∙ (ap (λ l. map {B = Post} (λ (t : Route). record { mirror = t.mirror; value = value }) l) (filter-append (λ (t : Route). t.fragment == k) (take i row) (r ∷ []))
     ∙ map-append (λ (t : Route). record { mirror = t.mirror; value = value }) (filter (λ (t : Route). t.fragment == k) (take i row)) (filter (λ (t : Route). t.fragment == k) (r ∷ []))))
 
-pub none_mailed : (sender : Sender) (before : List Bool) (olds : List Desk) (xs : ℕ → List Post) → ((j : ℕ) → xs j ≡ []) → AreMailed sender before olds xs before olds
-none_mailed sender before olds xs h =
+pub none_mailed : (sender : Sender) (before : List Bool) (olds : List Desk) (first : CutValues) (xs : ℕ → List Post) → ((j : ℕ) → xs j ≡ []) → AreMailed sender before olds first xs before olds first
+none_mailed sender before olds first xs h =
     record {
+      late = sym (recorded_none sender xs first h);
       mail = sym (mailed_from-none sender 0 before xs olds (λ j l. h j));
       batches = λ k l. or_false (slice_index_or before k false) (xs k) (h k);
     }
@@ -253,15 +374,16 @@ same_row k old new routes p h l m e =
     ∙ (rows_more k old new routes p h l m ∙ ap (λ n. posts_to k old new (take n routes)) (sym (add-one p)))
 
 -- nothing was sent
-pub mailed_same : (sender : Sender) (before begun : List Bool) (olds desks : List Desk) (xs zs : ℕ → List Post) → AreMailed sender before olds xs begun desks → ((j : ℕ) → xs j ++ [] ≡ zs j) → AreMailed sender before olds zs begun desks
-mailed_same sender before begun olds desks xs zs m e =
+pub mailed_same : (sender : Sender) (before begun : List Bool) (olds desks : List Desk) (first cut : CutValues) (xs zs : ℕ → List Post) → AreMailed sender before olds first xs begun desks cut → ((j : ℕ) → xs j ++ [] ≡ zs j) → AreMailed sender before olds first zs begun desks cut
+mailed_same sender before begun olds desks first cut xs zs m e =
     let same : (j : ℕ) → xs j ≡ zs j = λ j. sym (append-nil (xs j)) ∙ e j in
-    record { mail = m.mail ∙ mailed_from-same sender 0 before xs zs olds same; batches = begun_same before begun xs zs same m.batches }
+    record { mail = m.mail ∙ mailed_from-same sender 0 before xs zs olds same; batches = begun_same before begun xs zs same m.batches; late = m.late ∙ recorded_same sender xs zs first same }
 
 -- at the start no batch is begun, and at the end the posts of all places were sent
-pub mail_begins : (sender : Sender) (olds : List Desk) (xs : ℕ → List Post) (begun : List Bool) → begun ≡ replicate 64 false → ((j : ℕ) → xs j ≡ []) → AreMailed sender [] olds xs begun olds
-mail_begins sender olds xs begun e h =
+pub mail_begins : (sender : Sender) (olds : List Desk) (first : CutValues) (xs : ℕ → List Post) (begun : List Bool) → begun ≡ replicate 64 false → ((j : ℕ) → xs j ≡ []) → AreMailed sender [] olds first xs begun olds first
+mail_begins sender olds first xs begun e h =
     record {
+      late = sym (recorded_none sender xs first h);
       mail = sym (mailed_from-none sender 0 [] xs olds (λ j l. h j));
       batches = λ k l. ap (λ (b : List Bool). slice_index_or b k false) e ∙ (none_begun 64 (omega arith) k l ∙ ap (λ (ps : List Post). not (is_empty ps)) (sym (h k)));
     }
@@ -270,9 +392,15 @@ posted_is_mailed : (sender : Sender) (k : ℕ) (old new : List ℕ) (routes : Li
 posted_is_mailed sender k old new routes [] = refl
 posted_is_mailed sender k old new routes (d ∷ desks) = ap (λ l. with_batch_of sender (posts_to k old new routes) d ∷ l) (posted_is_mailed sender (k + 1) old new routes desks)
 
-pub mail_ends : (sender : Sender) (old new : List ℕ) (routes : List (List Route)) (n : ℕ) (olds desks : List Desk) (begun : List Bool) →
-    AreMailed sender [] olds (λ j. posts_to j old new (take n routes)) begun desks → length routes ≡ n → desks ≡ posted sender old new routes olds
-mail_ends sender old new routes n olds desks begun m e =
+-- all posts are late where they are
+pub late_ends : (sender : Sender) (old new : List ℕ) (routes : List (List Route)) (n : ℕ) (olds desks : List Desk) (first cut : CutValues) (begun : List Bool) →
+    AreMailed sender [] olds first (λ j. posts_to j old new (take n routes)) begun desks cut → length routes ≡ n → cut ≡ recorded_with sender (λ j. posts_to j old new routes) first
+late_ends sender old new routes n olds desks first cut begun m e =
+    m.late ∙ recorded_same sender (λ j. posts_to j old new (take n routes)) (λ j. posts_to j old new routes) first (λ j. ap (posts_to j old new) (take_all n routes (omega (arith, e))))
+
+pub mail_ends : (sender : Sender) (old new : List ℕ) (routes : List (List Route)) (n : ℕ) (olds desks : List Desk) (first cut : CutValues) (begun : List Bool) →
+    AreMailed sender [] olds first (λ j. posts_to j old new (take n routes)) begun desks cut → length routes ≡ n → desks ≡ posted sender old new routes olds
+mail_ends sender old new routes n olds desks first cut begun m e =
     m.mail
     ∙ (mailed_from-same sender 0 [] (λ j. posts_to j old new (take n routes)) (λ j. posts_to j old new routes) olds (λ j. ap (posts_to j old new) (take_all n routes (omega (arith, e))))
     ∙ posted_is_mailed sender 0 old new routes olds)
@@ -287,21 +415,26 @@ row_leads routes desks olds p lead h e =
     subst (λ (l : List ℕ). All (λ (r : Route). r.mirror < slice_index l r.fragment) (slice_index_or routes p [])) (sym e)
     (All-get_or (λ row. All (λ (r : Route). r.mirror < slice_index (mirror_counts olds) r.fragment) row) routes p [] h lead)
 
-pub row_mailed : (sender : Sender) (old new : List ℕ) (routes : List (List Route)) (p value : ℕ) (row : List Route) (olds desks desks' : List Desk) (begun begun' : List Bool) →
-    AreMailed sender [] olds (λ j. posts_to j old new (take p routes)) begun desks → length olds ≤ 64 → p < length old → length routes ≡ length old → length old ≤ length new →
+pub row_mailed : (sender : Sender) (old new : List ℕ) (routes : List (List Route)) (p value : ℕ) (row : List Route) (olds desks desks' : List Desk) (first cut cut' : CutValues) (begun begun' : List Bool) →
+    AreMailed sender [] olds first (λ j. posts_to j old new (take p routes)) begun desks cut → length olds ≤ 64 → p < length old → length routes ≡ length old → length old ≤ length new →
     value ≡ slice_index new p → row ≡ slice_index_or routes p [] → slice_index old p ≢ slice_index new p →
-    desks' ≡ mailed sender begun (λ j. posts_along j value row) desks → AreBegun begun (λ j. posts_along j value row) begun' → AreMailed sender [] olds (λ j. posts_to j old new (take (p + 1) routes)) begun' desks'
-row_mailed sender old new routes p value row olds desks desks' begun begun' m few l r n ev er d mail batches =
-    mailed_more sender [] begun begun' olds desks desks' _ (λ j. posts_along j value row) (λ j. posts_to j old new (take (p + 1) routes)) m few mail batches
+    desks' ≡ mailed sender begun (λ j. posts_along j value row) desks → AreBegun begun (λ j. posts_along j value row) begun' → cut' ≡ recorded_with sender (λ j. posts_along j value row) cut →
+    AreMailed sender [] olds first (λ j. posts_to j old new (take (p + 1) routes)) begun' desks' cut'
+row_mailed sender old new routes p value row olds desks desks' first cut cut' begun begun' m few l r n ev er d mail batches late =
+    mailed_more sender [] begun begun' olds desks desks' first cut cut' _ (λ j. posts_along j value row) (λ j. posts_to j old new (take (p + 1) routes)) m few mail batches late
     (λ j.
     ap (λ v. posts_to j old new (take p routes) ++ posts_along j v row) ev
     ∙ (ap (λ q. posts_to j old new (take p routes) ++ posts_along j (slice_index new p) q) er
     ∙ changed_row j old new routes p (omega (arith, r, l)) l (omega (arith, l, n)) d))
 
-pub row_left : (sender : Sender) (old new : List ℕ) (routes : List (List Route)) (p : ℕ) (olds desks desks' : List Desk) (begun begun' : List Bool) →
-    AreMailed sender [] olds (λ j. posts_to j old new (take p routes)) begun desks → p < length old → length routes ≡ length old → length old ≤ length new →
-    slice_index old p ≡ slice_index new p → desks' ≡ desks → begun' ≡ begun → AreMailed sender [] olds (λ j. posts_to j old new (take (p + 1) routes)) begun' desks'
-row_left sender old new routes p olds desks desks' begun begun' m l r n e ed eb =
-    let same = mailed_same sender [] begun olds desks _ (λ j. posts_to j old new (take (p + 1) routes)) m (λ j. same_row j old new routes p (omega (arith, r, l)) l (omega (arith, l, n)) e) in
-    subst (λ (ds : List Desk). AreMailed sender [] olds (λ j. posts_to j old new (take (p + 1) routes)) begun' ds) (sym ed)
-    (subst (λ (b : List Bool). AreMailed sender [] olds (λ j. posts_to j old new (take (p + 1) routes)) b desks) (sym eb) same)
+pub row_left : (sender : Sender) (old new : List ℕ) (routes : List (List Route)) (p : ℕ) (olds desks desks' : List Desk) (first cut cut' : CutValues) (begun begun' : List Bool) →
+    AreMailed sender [] olds first (λ j. posts_to j old new (take p routes)) begun desks cut → p < length old → length routes ≡ length old → length old ≤ length new →
+    slice_index old p ≡ slice_index new p → desks' ≡ desks → begun' ≡ begun → cut' ≡ cut → AreMailed sender [] olds first (λ j. posts_to j old new (take (p + 1) routes)) begun' desks' cut'
+row_left sender old new routes p olds desks desks' first cut cut' begun begun' m l r n e ed eb ec =
+    let zs = λ (j : ℕ). posts_to j old new (take (p + 1) routes) in
+    let same = mailed_same sender [] begun olds desks first cut _ zs m (λ j. same_row j old new routes p (omega (arith, r, l)) l (omega (arith, l, n)) e) in
+    record {
+      mail = ed ∙ same.mail;
+      batches = λ k h. ap (λ (b : List Bool). slice_index_or b k false) eb ∙ same.batches k h;
+      late = ec ∙ same.late;
+    }

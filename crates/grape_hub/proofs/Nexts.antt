@@ -1,8 +1,8 @@
 -- What a hub's next answers.
-use Rattle.std.proofs.Common.{◌≡◌, ℕ, ◌-◌, ◌<◌, ◌≤◌, Bool, true, false, not, ◌&&◌, ◌||◌, refl, sym, ◌∙◌, ap, subst, arith, Option, Some, None}
+use Rattle.std.proofs.Common.{◌≡◌, ℕ, ◌<◌, ◌≤◌, Bool, true, false, not, ◌&&◌, ◌||◌, refl, sym, ◌∙◌, ap, subst, arith, Option, Some, None}
 use Rattle.std.proofs.lemmas.Bool.{and_parts, ltb-true, false≢true}
 use Rattle.grape_event.specs.declared.event.Event.{Event}
-use Rattle.grape_event.specs.declared.event.Event.TheVariants.{Take, Stretch}
+use Rattle.grape_event.specs.declared.event.Event.TheVariants.{Take}
 use Rattle.grape_event.specs.Events.{is_take}
 use Rattle.base_machine.specs.Machine.{Worker, Standing, worker_at, is_fresh, is_running, rests, batch_waits}
 use Rattle.base_machine.specs.Machine.Standing.{Fresh, Running, Rest}
@@ -13,13 +13,13 @@ use Rattle.legal_journal.proofs.Choosing.{lane_choices_are_exact}
 use Rattle.legal_journal.proofs.Probes.{ready_to_take}
 use Rattle.grape_hub.specs.declared.kind.Kind.{Kind}
 use Rattle.grape_hub.specs.declared.kind.Kind.TheVariants as kind
-use Rattle.grape_hub.specs.declared.work.Work.{Work}
 use Rattle.grape_hub.specs.declared.work.Next.{Next}
 use Rattle.grape_hub.specs.declared.work.Next.TheVariants.{Took, Did, Idle, Ended, NoMemory}
 use Rattle.grape_hub.specs.HubValues.{HubValues}
 use Rattle.grape_hub.specs.States.{machine, state_of, workers_of, IsHub}
 use Rattle.grape_hub.specs.Choices.{MayChoose, IsChoice, event_of}
 use Rattle.grape_hub.specs.Calls.{Appended, Chooses, TakesWorker, MayStretch, StretchesWorker, NotesEvent, ReadyWhereTook, IsWork}
+use Rattle.grape_hub.specs.Desks.{has_taken}
 use Rattle.grape_hub.proofs.Ready.{ready_after_take}
 
 -- ---- what was found is admitted
@@ -66,7 +66,7 @@ module _ (h : HubValues) (lane i : ℕ) (found : IsChoice (machine h) (state_of 
   take_chosen (Took work) new t = (
     (λ j. 0, λ j. omega arith, found (λ j. 0) (λ j. omega arith) ∙ ap (λ k. Some (Take k lane)) (sym t.0)),
     subst (λ k. Appended h (Take k lane) new) (sym t.0) t.1,
-    subst (λ k. IsWork new lane (is_fresh (worker_at (workers_of h) k)) work) (sym t.0) t.2,
+    subst (λ k. IsWork new lane (not (has_taken k (state_of h).past)) work) (sym t.0) t.2,
   )
   take_chosen (Did e) new t = absurd t
   take_chosen Idle new t = absurd t
@@ -75,9 +75,8 @@ module _ (h : HubValues) (lane i : ℕ) (found : IsChoice (machine h) (state_of 
 
   pub take_ready : IsHub h → (r : Next) (new : HubValues) → TakesWorker h i lane r new → ReadyWhereTook new r
   take_ready kept (Took work) new t =
-      ready_after_take h new lane (is_fresh (worker_at (workers_of h) i)) work kept (subst (λ k. Appended h (Take k lane) new) (sym t.0) t.1)
-      (subst (λ k. k < worker_count (state_of h)) (sym t.0) take_in_range) (subst (λ k. is_running (worker_at (workers_of h) k) ≡ false) (sym t.0) take_idle)
-      (ap (λ k. is_fresh (worker_at (workers_of h) k)) (sym t.0)) t.2
+      ready_after_take h new lane work kept (subst (λ k. Appended h (Take k lane) new) (sym t.0) t.1) (subst (λ k. k < worker_count (state_of h)) (sym t.0) take_in_range)
+      (subst (λ k. is_running (worker_at (workers_of h) k) ≡ false) (sym t.0) take_idle) (subst (λ k. IsWork new lane (not (has_taken k (state_of h).past)) work) (sym t.0) t.2)
   take_ready kept (Did e) new t = absurd t
   take_ready kept Idle new t = absurd t
   take_ready kept Ended new t = absurd t

@@ -1,10 +1,11 @@
 -- The round and the pulse of a desk that gets a batch.
-use Rattle.std.proofs.Common.{◌≡◌, ℕ, ◌+◌, Bool, true, false, not, ◌&&◌, nat_lt, max, if◌then◌else◌, refl, ◌∙◌, ap, arith, List, [], ◌∷◌}
-use Rattle.base_machine.specs.Machine.{System, Standing, Fresh, Running, Rest, Worker, Post, worker_at, is_fresh, is_running, rests, is_empty, batch_waits, batches_waiting}
+use Rattle.std.proofs.Common.{◌≡◌, ℕ, ◌+◌, ◌<◌, Bool, true, false, not, ◌&&◌, nat_lt, max, if◌then◌else◌, refl, ◌∙◌, ap, List, [], ◌∷◌}
+use Rattle.base_machine.specs.Machine.{System, Standing, Fresh, Running, Rest, Worker, Post, worker_at, is_fresh, is_running, rests, is_empty, batch_waits}
 use Rattle.message_buffer.specs.BufferValues.{BufferValues}
 use Rattle.message_buffer.specs.Buffers.{batches_in}
 use Rattle.legal_journal.specs.Delays.{window}
-use Rattle.legal_journal.specs.Legal.{State, rests_without_mail}
+use Rattle.legal_journal.specs.Legal.{State, worker_count, rests_without_mail}
+use Rattle.legal_journal.proofs.Journals.{AreCounted}
 use Rattle.delay_stretch.proofs.Windows.{window-follows}
 use Rattle.grape_hub.specs.declared.desk.Desk.{Desk}
 use Rattle.grape_hub.specs.declared.desk.Seat.{Seat}
@@ -12,10 +13,11 @@ use Rattle.grape_hub.specs.declared.desk.Seat.TheVariants.{Here, Out}
 use Rattle.grape_hub.specs.declared.sender.Sender.{Sender}
 use Rattle.grape_hub.specs.Desks.{DeskFits, SeatFits, rests_at, has_mail}
 use Rattle.grape_hub.specs.Posting.{with_batch_of}
+use Rattle.grape_hub.proofs.Classes.{batches_by_class}
 
 -- ---- a worker that rests without mail
 
-module _ (sys : System) (s : State) (counters i : ℕ) (d : Desk) (f : DeskFits sys s counters i d) where
+module _ (sys : System) (s : State) (counters i : ℕ) (d : Desk) (counted : AreCounted (worker_count s) s) (inside : i < worker_count s) (f : DeskFits sys s counters i d) where
   abbrev w : Worker
   w = worker_at s.workers i
 
@@ -37,9 +39,7 @@ module _ (sys : System) (s : State) (counters i : ℕ) (d : Desk) (f : DeskFits 
       go (Out lane place) k = not_out (worker_at s.workers i).standing k.0
 
   mail_is : has_mail d ≡ batch_waits w
-  mail_is =
-      let none : batches_waiting (worker_at s.workers i) + 0 ≡ batches_waiting (worker_at s.workers i) = omega arith in
-      ap (λ (b : BufferValues). nat_lt 0 (batches_in b)) f.buffer ∙ ap (λ n. nat_lt 0 n) none
+  mail_is = ap (λ (b : BufferValues). nat_lt 0 (batches_in b)) f.buffer ∙ ap (λ n. nat_lt 0 n) (batches_by_class sys s i counted inside)
 
   pub rests_here : (rests_at d && not (has_mail d)) ≡ rests_without_mail s i
   rests_here = ap (λ b. b && not (has_mail d)) rests_is ∙ ap (λ b. rests w && not b) mail_is

@@ -3,6 +3,7 @@ use Rattle.std.proofs.Common.{◌≡◌, ℕ, zero, suc, ◌+◌, ◌-◌, ◌<�
 use Rattle.std.specs.List.{range_with_len}
 use Rattle.std.proofs.lemmas.Bool.{cases_lt, false≢true}
 use Rattle.std.proofs.lemmas.Option.{none-some, same_Some, slice_get-get_or, slice_get_past, slice_get_within}
+use Rattle.token_cut.specs.CutValues.{CutValues}
 use Rattle.stop_probe.specs.ProbeValues.{ProbeValues}
 use Rattle.grape_hub.specs.declared.desk.Desk.{Desk}
 use Rattle.grape_hub.specs.declared.kind.Kind.{Kind}
@@ -112,22 +113,22 @@ joined_none test (x ∷ is) js h = go (test x) (joined_none test is js) h
 
 -- ---- kinds in their order
 
-module _ (sight : Sight) (probe : ProbeValues) (desks : List Desk) (turn : ℕ) where
-  pub kind_found : (ks : List Kind) (n i : ℕ) (k : Kind) → n < length ks → first_desk (admits (slice_index_or ks n k) sight probe) desks turn ≡ Some i →
-      first_of_kinds sight probe desks turn (drop n ks) ≡ Some (slice_index_or ks n k, i)
+module _ (sight : Sight) (probe : ProbeValues) (cut : CutValues) (desks : List Desk) (turn : ℕ) where
+  pub kind_found : (ks : List Kind) (n i : ℕ) (k : Kind) → n < length ks → first_desk (admits (slice_index_or ks n k) sight probe cut) desks turn ≡ Some i →
+      first_of_kinds sight probe cut desks turn (drop n ks) ≡ Some (slice_index_or ks n k, i)
   kind_found [] n i k l h = absurd (omega (arith, l))
-  kind_found (x ∷ ks) zero i k l h = ap (λ o. found_or x o (first_of_kinds sight probe desks turn ks)) h
+  kind_found (x ∷ ks) zero i k l h = ap (λ o. found_or x o (first_of_kinds sight probe cut desks turn ks)) h
   kind_found (x ∷ ks) (suc n) i k l h = kind_found ks n i k (omega (arith, l)) h
 
-  pub kind_missing : (ks : List Kind) (n : ℕ) (k : Kind) → n < length ks → first_desk (admits (slice_index_or ks n k) sight probe) desks turn ≡ None →
-      first_of_kinds sight probe desks turn (drop n ks) ≡ first_of_kinds sight probe desks turn (drop (n + 1) ks)
+  pub kind_missing : (ks : List Kind) (n : ℕ) (k : Kind) → n < length ks → first_desk (admits (slice_index_or ks n k) sight probe cut) desks turn ≡ None →
+      first_of_kinds sight probe cut desks turn (drop n ks) ≡ first_of_kinds sight probe cut desks turn (drop (n + 1) ks)
   kind_missing [] n k l h = absurd (omega (arith, l))
-  kind_missing (x ∷ ks) zero k l h = ap (λ o. found_or x o (first_of_kinds sight probe desks turn ks)) h
+  kind_missing (x ∷ ks) zero k l h = ap (λ o. found_or x o (first_of_kinds sight probe cut desks turn ks)) h
   kind_missing (x ∷ ks) (suc n) k l h =
       let e : suc (n + 1) ≡ suc n + 1 = omega arith in
-      kind_missing ks n k (omega (arith, l)) h ∙ ap (λ m. first_of_kinds sight probe desks turn (drop m (x ∷ ks))) e
+      kind_missing ks n k (omega (arith, l)) h ∙ ap (λ m. first_of_kinds sight probe cut desks turn (drop m (x ∷ ks))) e
 
-  pub no_kind_left : (ks : List Kind) (n : ℕ) → length ks ≤ n → first_of_kinds sight probe desks turn (drop n ks) ≡ None
+  pub no_kind_left : (ks : List Kind) (n : ℕ) → length ks ≤ n → first_of_kinds sight probe cut desks turn (drop n ks) ≡ None
   no_kind_left [] zero l = refl
   no_kind_left [] (suc n) l = refl
   no_kind_left (x ∷ ks) zero l = absurd (omega (arith, l))

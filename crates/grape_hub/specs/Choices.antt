@@ -1,7 +1,7 @@
 -- Which event a hub appends: the order of choice, with what the pacers add.
 use Rattle.std.specs.Prelude.{◌≡◌, ℕ, ◌+◌, ◌≤◌, Option, Some, None}
 use Rattle.grape_event.specs.declared.event.Event.{Event}
-use Rattle.grape_event.specs.declared.event.Event.TheVariants.{Take, Stretch, Hold, Flag, Ack, Nack}
+use Rattle.grape_event.specs.declared.event.Event.TheVariants.{Take, Stretch, Hold, Flag, Ack, Nack, Mark}
 use Rattle.base_machine.specs.Machine.{System}
 use Rattle.legal_journal.specs.Legal.{State, stretch_from}
 use Rattle.legal_journal.specs.Choices.{next_choice}
@@ -14,6 +14,7 @@ MayChoose sys s lane choice = (extra : ℕ → ℕ) × ((i : ℕ) → extra i �
 
 -- the event of a kind of a worker
 abbrev pub event_of : System → State → ℕ → (ℕ → ℕ) → Kind → ℕ → Event
+event_of sys s lane extra kind.Mark i = Mark i
 event_of sys s lane extra kind.Take i = Take i lane
 event_of sys s lane extra kind.Stretch i = Stretch i (stretch_from sys s i + extra i)
 event_of sys s lane extra kind.Ack i = Ack i

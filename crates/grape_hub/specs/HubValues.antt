@@ -2,9 +2,11 @@
 use Rattle.std.specs.Prelude.{ℕ}
 use Rattle.graph_core.specs.declared.job.Job.{Job}
 use Rattle.grape_event.specs.JournalList.{JournalList}
+use Rattle.token_cut.specs.Parts.{SnapshotParts}
 
--- the job, how many counters the program has for an owned vertex, and the journal, which determines all else
+-- the job, how many counters the program has for an owned vertex, the state from which the run starts, and the journal, which with the start determines all else
 pub record HubValues : Type 0 where
   pub job : Job
   pub counters : ℕ
+  pub start : SnapshotParts
   pub journal : JournalList

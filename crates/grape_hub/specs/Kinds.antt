@@ -1,5 +1,5 @@
 -- The kinds of events that a lane looks for, as tests of a desk, of the probe, and of what the hub saw over all desks.
-use Rattle.std.specs.Prelude.{◌≡◌, ℕ, ◌-◌, ◌≤◌, min, Bool, true, false, not, ◌&&◌, ◌||◌, nat_lt, nat_le, List, [], ◌∷◌, ◌++◌, Option, Some, None, length, slice_get, if◌then◌else◌}
+use Rattle.std.specs.Prelude.{◌≡◌, ℕ, ◌-◌, ◌^◌, ◌≤◌, min, Bool, true, false, not, ◌&&◌, ◌||◌, nat_lt, nat_le, List, [], ◌∷◌, ◌++◌, Option, Some, None, length, slice_get, if◌then◌else◌}
 use Rattle.std.specs.List.{range_with_len}
 use Rattle.std.specs.Option.{is_some}
 use Rattle.graph_core.specs.declared.settings.Policy.{Policy}
@@ -7,14 +7,17 @@ use Rattle.graph_core.specs.declared.settings.Policy.TheVariants.{Bsp, Ap, Ssp, 
 use Rattle.graph_core.specs.Fragments.{numbers_below}
 use Rattle.message_buffer.specs.Buffers.{batches_in}
 use Rattle.legal_journal.specs.Delays.{has_enough}
+use Rattle.token_cut.specs.CutValues.{CutValues}
+use Rattle.token_cut.specs.Recording.{is_marked}
 use Rattle.stop_probe.specs.ProbeValues.{ProbeValues}
 use Rattle.stop_probe.specs.Probe.{may_flag, may_answer, took_since_ask}
+use Rattle.grape_hub.specs.declared.counts.Counts.{Counts}
 use Rattle.grape_hub.specs.declared.desk.Delay.{Delay}
 use Rattle.grape_hub.specs.declared.desk.Desk.{Desk}
 use Rattle.grape_hub.specs.declared.kind.Kind.{Kind}
 use Rattle.grape_hub.specs.declared.kind.Kind.TheVariants as kind
 use Rattle.grape_hub.specs.declared.sight.Sight.{Sight}
-use Rattle.grape_hub.specs.Desks.{is_fresh_at, rests_at, has_mail, is_busy_at}
+use Rattle.grape_hub.specs.Desks.{is_fresh_at, rests_at, has_mail, is_out, is_busy_at}
 
 -- ---- the least round
 
@@ -47,15 +50,26 @@ turns_are_over (Some delay) clock = nat_lt delay.turns (clock - delay.place)
 abbrev pub is_over : Sight → Desk → Bool
 is_over sight d = turns_are_over d.delay sight.clock || has_enough sight.policy (batches_in d.buffer)
 
+-- ---- the recording
+
+-- a snapshot is due after so many Takes, where some are said
+abbrev pub is_due : ℕ → Counts → Bool
+is_due every counts = nat_lt 0 every && nat_le every counts.takes && nat_lt counts.epoch (2 ^ 62 - 1)
+
+-- a recording is open in which worker i isn't marked
+abbrev pub is_unmarked : ℕ → CutValues → Bool
+is_unmarked i cut = cut.recording && not (is_marked i cut)
+
 -- ---- the tests
 
-abbrev pub admits : Kind → Sight → ProbeValues → ℕ → Desk → Bool
-admits kind.Take sight probe i d = (is_fresh_at d || ((rests_at d && has_mail d) && is_over sight d)) && is_near_enough sight.policy sight.least d.round
-admits kind.Stretch sight probe i d = (rests_at d && has_mail d) && not (is_some d.delay)
-admits kind.Ack sight probe i d = may_answer i probe && (rests_at d && not (has_mail d)) && not (took_since_ask i probe)
-admits kind.Nack sight probe i d = may_answer i probe && rests_at d && (has_mail d || took_since_ask i probe)
-admits kind.Flag sight probe i d = may_flag i probe && (rests_at d && not (has_mail d))
-admits kind.Hold sight probe i d = is_some d.delay && not (is_over sight d)
+abbrev pub admits : Kind → Sight → ProbeValues → CutValues → ℕ → Desk → Bool
+admits kind.Mark sight probe cut i d = is_unmarked i cut && not (is_out d)
+admits kind.Take sight probe cut i d = (is_fresh_at d || ((rests_at d && has_mail d) && is_over sight d)) && is_near_enough sight.policy sight.least d.round && not sight.due && not (is_unmarked i cut && nat_lt 0 d.buffer.tagged_batches)
+admits kind.Stretch sight probe cut i d = (rests_at d && has_mail d) && not (is_some d.delay)
+admits kind.Ack sight probe cut i d = may_answer i probe && (rests_at d && not (has_mail d)) && not (took_since_ask i probe)
+admits kind.Nack sight probe cut i d = may_answer i probe && rests_at d && (has_mail d || took_since_ask i probe)
+admits kind.Flag sight probe cut i d = may_flag i probe && (rests_at d && not (has_mail d))
+admits kind.Hold sight probe cut i d = is_some d.delay && not (is_over sight d)
 
 -- ---- the search
 
@@ -78,13 +92,13 @@ first_desk test desks turn = first_where (holds_at test desks) (round_of (length
 
 -- the kinds in their order
 abbrev pub kinds : List Kind
-kinds = kind.Take ∷ kind.Stretch ∷ kind.Ack ∷ kind.Nack ∷ kind.Flag ∷ kind.Hold ∷ []
+kinds = kind.Mark ∷ kind.Take ∷ kind.Stretch ∷ kind.Ack ∷ kind.Nack ∷ kind.Flag ∷ kind.Hold ∷ []
 
 abbrev pub found_or : Kind → Option ℕ → Option (Kind × ℕ) → Option (Kind × ℕ)
 found_or k None later = later
 found_or k (Some i) later = Some (k, i)
 
 -- the first of these kinds for which there is a desk, with the first such desk
-abbrev pub first_of_kinds : Sight → ProbeValues → List Desk → ℕ → List Kind → Option (Kind × ℕ)
-first_of_kinds sight probe desks turn [] = None
-first_of_kinds sight probe desks turn (k ∷ ks) = found_or k (first_desk (admits k sight probe) desks turn) (first_of_kinds sight probe desks turn ks)
+abbrev pub first_of_kinds : Sight → ProbeValues → CutValues → List Desk → ℕ → List Kind → Option (Kind × ℕ)
+first_of_kinds sight probe cut desks turn [] = None
+first_of_kinds sight probe cut desks turn (k ∷ ks) = found_or k (first_desk (admits k sight probe cut) desks turn) (first_of_kinds sight probe cut desks turn ks)

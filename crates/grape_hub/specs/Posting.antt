@@ -1,28 +1,32 @@
 -- What a Give leaves at the desks.
-use Rattle.std.specs.Prelude.{◌≡◌, ◌≢◌, ℕ, ◌+◌, ◌<◌, ◌^◌, ◌-◌, Bool, true, false, not, ◌==◌, ◌||◌, List, [], ◌∷◌, map, filter, length, All, Some, slice_get, slice_index, slice_index_or}
+use Rattle.std.specs.Prelude.{◌≡◌, ◌≢◌, ℕ, ◌+◌, ◌&&◌, if◌then◌else◌, ◌<◌, ◌^◌, ◌-◌, Bool, true, false, not, ◌==◌, ◌||◌, IsTrue, List, [], ◌∷◌, map, filter, length, All, Some, slice_get, slice_index, slice_index_or}
 use Rattle.value_order.specs.declared.TheConstants.{NOTHING}
 use Rattle.graph_core.specs.declared.fragment.Route.{Route}
 use Rattle.message_buffer.specs.BufferValues.{BufferValues}
 use Rattle.message_buffer.specs.Buffers.{with_post, batches_in}
-use Rattle.base_machine.specs.Machine.{Post, posts_to, is_empty}
+use Rattle.base_machine.specs.Machine.{Post, posts_to, values_for, is_empty}
+use Rattle.token_cut.specs.Parts.{PartValues}
+use Rattle.token_cut.specs.CutValues.{CutValues}
+use Rattle.token_cut.specs.Recording.{is_marked}
+use Rattle.token_cut.specs.Late.{lowered_by}
 use Rattle.delay_stretch.specs.Arrivals.{IsNotBelowLast}
 use Rattle.grape_hub.specs.declared.desk.Desk.{Desk}
 use Rattle.grape_hub.specs.declared.sender.Sender.{Sender}
 use Rattle.grape_hub.specs.Desks.{with_arrival}
 
--- all of these posts in the last batch
-abbrev pub with_posts : List Post → BufferValues → BufferValues
-with_posts [] b = b
-with_posts (p ∷ posts) b = with_posts posts (with_post false p.mirror p.value b)
+-- all of these posts in the last batch of a class
+abbrev pub with_posts : Bool → List Post → BufferValues → BufferValues
+with_posts tagged [] b = b
+with_posts tagged (p ∷ posts) b = with_posts tagged posts (with_post tagged p.mirror p.value b)
 
 -- posts in the last batch of a desk
-abbrev pub with_more : List Post → Desk → Desk
-with_more posts d = record { seat = d.seat; delay = d.delay; round = d.round; pulse = d.pulse; buffer = with_posts posts d.buffer }
+abbrev pub with_more : Bool → List Post → Desk → Desk
+with_more tagged posts d = record { seat = d.seat; delay = d.delay; round = d.round; pulse = d.pulse; buffer = with_posts tagged posts d.buffer; begun = d.begun }
 
 -- a batch of these posts; no posts are no batch
 abbrev pub with_batch_of : Sender → List Post → Desk → Desk
 with_batch_of sender [] d = d
-with_batch_of sender (p ∷ posts) d = with_more (p ∷ posts) (with_arrival sender.place sender.round d)
+with_batch_of sender (p ∷ posts) d = with_more sender.tagged (p ∷ posts) (with_arrival sender d)
 
 -- The desks, the first of which has this number, after the owned values that changed from old to new were sent along their routes.
 abbrev pub posted_from : Sender → ℕ → List ℕ → List ℕ → List (List Route) → List Desk → List Desk
@@ -55,7 +59,7 @@ AllCanReceive place desks = All (CanReceive place) desks
 
 -- posts for a worker, in the batch that was begun for it, or in a new one
 abbrev pub with_mail : Sender → Bool → List Post → Desk → Desk
-with_mail sender true posts d = with_more posts d
+with_mail sender true posts d = with_more sender.tagged posts d
 with_mail sender false posts d = with_batch_of sender posts d
 
 -- the desks, the first of which has this number, after each got its posts, where a batch was begun for some
@@ -77,3 +81,25 @@ posts_along k value row = map (λ t. record { mirror = t.mirror; value = value }
 -- a desk for which no batch was begun can get one
 abbrev pub CanBegin : ℕ → List Bool → List Desk → Type 0
 CanBegin place begun desks = (k : ℕ) (d : Desk) → slice_get desks k ≡ Some d → slice_index_or begun k false ≡ false → CanReceive place d
+
+-- ---- late mail
+
+-- an untagged batch to a worker that is marked in an open recording
+abbrev pub is_late_at : Sender → CutValues → ℕ → Bool
+is_late_at sender cut k = cut.recording && is_marked k cut && not sender.tagged
+
+-- the values of the posts of worker k for mirror m, where its batch is late
+abbrev pub late_posts : Sender → CutValues → (ℕ → List Post) → ℕ → ℕ → List ℕ
+late_posts sender cut posts k m = if is_late_at sender cut k then values_for m (posts k) else []
+
+-- the recording after each worker got its posts
+abbrev pub recorded_with : Sender → (ℕ → List Post) → CutValues → CutValues
+recorded_with sender posts cut = lowered_by (late_posts sender cut posts) cut
+
+-- how much mail each recorded part has
+abbrev pub mails_in : List PartValues → List ℕ
+mails_in parts = map (λ part. length part.mail) parts
+
+-- where a recording is open it has the mail of each desk
+abbrev pub HasMailOf : List Desk → CutValues → Type 0
+HasMailOf desks cut = IsTrue cut.recording → mails_in cut.parts ≡ mirror_counts desks

@@ -1,26 +1,23 @@
 -- The state that a hub's journal leads to, and what is out with the lanes.
-use Rattle.std.specs.Prelude.{◌≡◌, ℕ, ◌+◌, ◌<◌, ◌≤◌, Bool, true, false, ◌==◌, if◌then◌else◌, List, [], ◌∷◌, Option, Some, None, length, reverse, count_by}
-use Rattle.std.specs.List.{AllByRecursion}
+use Rattle.std.specs.Prelude.{◌≡◌, ℕ, ◌+◌, ◌<◌, ◌≤◌, true, false, ◌==◌, if◌then◌else◌, List, [], ◌∷◌, Option, Some, None, length, reverse, count_by}
+use Rattle.std.specs.Option.{is_some}
 use Rattle.graph_core.specs.Graphs.{IsJob}
 use Rattle.graph_core.specs.Fragments.{Piece, piece_at}
 use Rattle.grape_event.specs.declared.event.Event.{Event}
-use Rattle.grape_event.specs.declared.event.Event.TheVariants.{Take, Begin, Mark, Seal, Kept}
-use Rattle.token_cut.specs.Parts.{SnapshotParts}
-use Rattle.base_machine.specs.Machine.{System, system_of, BaseState, worker_at, is_running, fresh_snapshot}
+use Rattle.grape_event.specs.declared.event.Event.TheVariants.{Take, Seal, Kept}
+use Rattle.base_machine.specs.Machine.{System, system_of, BaseState, worker_at, is_running}
+use Rattle.base_machine.specs.Fitness.{IsInForm}
 use Rattle.legal_journal.specs.Past.{lane_of, has_ended}
 use Rattle.legal_journal.specs.Legal.{State, state_at_end, worker_count, IsLegal}
 use Rattle.grape_hub.specs.HubValues.{HubValues}
 
--- what the hub runs, and where it begins
+-- what the hub runs
 abbrev pub machine : HubValues → System
 machine h = system_of h.job
 
-abbrev pub beginning : HubValues → SnapshotParts
-beginning h = fresh_snapshot (machine h)
-
 -- the state after the hub's journal
 abbrev pub state_of : HubValues → State
-state_of h = state_at_end (machine h) (beginning h) h.journal.events
+state_of h = state_at_end (machine h) h.start h.journal.events
 
 abbrev pub workers_of : HubValues → BaseState
 workers_of h = (state_of h).workers
@@ -49,18 +46,20 @@ works_out ws = count_by is_running ws
 
 -- ---- what every hub keeps
 
--- the events that a hub appends so far: all but those of snapshots
-abbrev pub is_built : Event → Bool
-is_built (Begin e) = false
-is_built (Mark i) = false
-is_built (Seal e) = false
-is_built (Kept e) = false
-is_built _ = true
+-- the epoch that is sealed and not kept yet, where there is one; the journal stands newest first
+abbrev pub sealed_epoch : List Event → Option ℕ
+sealed_epoch [] = None
+sealed_epoch (Seal e ∷ past) = Some e
+sealed_epoch (Kept e ∷ past) = None
+sealed_epoch (_ ∷ past) = sealed_epoch past
 
--- The job lies within the limits, and it asks for no snapshots. The journal is legal from the beginning, and until it has ended it has room for a Give of each worker that is out, and for a Stop.
+-- for how many events there has to be room until the journal has ended: a Give of each worker that is out, the Kept of a sealed snapshot, and a Stop
+abbrev pub events_owed : State → ℕ
+events_owed s = works_out s.workers + (if is_some (sealed_epoch s.past) then 1 else 0) + 1
+
+-- The job lies within the limits, and the start is in the form of its snapshots. The journal is legal from the start, and has the room that is owed.
 pub record IsHub (h : HubValues) : Type 0 where
   pub job : IsJob h.job
-  pub snapshot : h.job.settings.snapshot ≡ 0
-  pub legal : IsLegal (machine h) (beginning h) h.journal.events
-  pub built : AllByRecursion (λ e. is_built e ≡ true) h.journal.events
-  pub room : has_ended (reverse h.journal.events) ≡ false → works_out (workers_of h) + 1 ≤ h.journal.spare
+  pub start : IsInForm (machine h) h.start
+  pub legal : IsLegal (machine h) h.start h.journal.events
+  pub room : has_ended (reverse h.journal.events) ≡ false → events_owed (state_of h) ≤ h.journal.spare

@@ -1,6 +1,7 @@
 -- The laws of hubs, as statements.
-use Rattle.std.specs.Prelude.{◌≡◌, ℕ, Bool, ◌<◌, ◌≤◌, ◌+◌, ◌*◌, false, IsTrue, List, None, [], ◌∷◌, ◌++◌, length, reverse, slice_index}
+use Rattle.std.specs.Prelude.{◌≡◌, ℕ, Bool, ◌<◌, ◌≤◌, ◌+◌, ◌*◌, false, IsTrue, List, None, [], ◌∷◌, ◌++◌, Some, length, reverse, slice_index, Contains}
 use Rattle.graph_core.specs.declared.job.Job.{Job}
+use Rattle.graph_core.specs.Graphs.{IsJob}
 use Rattle.graph_core.specs.Equations.{Assignment, Equations, IsGreatest}
 use Rattle.graph_core.specs.Queries.{equations_of}
 use Rattle.graph_core.specs.Fragments.{IsOwnedAt, pieces_of, fragment_of}
@@ -8,21 +9,23 @@ use Rattle.pie_core.specs.Locals.{LocalValues}
 use Rattle.pie_core.specs.Solutions.{lowered, local_solution}
 use Rattle.pie_core.specs.Evaluations.{MayEvaluate}
 use Rattle.grape_event.specs.declared.event.Event.{Event}
-use Rattle.grape_event.specs.declared.event.Event.TheVariants.{Take, Give, End}
+use Rattle.grape_event.specs.declared.event.Event.TheVariants.{Take, Give, Seal, End}
 use Rattle.grape_event.specs.Events.{is_take}
 use Rattle.token_cut.specs.Parts.{SnapshotParts}
-use Rattle.base_machine.specs.Machine.{BaseState, BaseEvent, worker_at, is_running, system_with, base_state_of}
+use Rattle.base_machine.specs.Machine.{BaseState, BaseEvent, worker_at, is_running, system_with, system_of, base_state_of, fresh_snapshot}
 use Rattle.base_machine.specs.Runs.{Runs}
-use Rattle.base_machine.specs.Fitness.{is_quiet, IsFit}
+use Rattle.base_machine.specs.Fitness.{is_quiet, IsFit, IsInForm}
 use Rattle.base_machine.specs.Bounds.{bound_of}
 use Rattle.legal_journal.specs.BaseEvents.{base_of}
 use Rattle.legal_journal.specs.Past.{has_ended}
 use Rattle.legal_journal.specs.Legal.{has_work_out}
 use Rattle.legal_journal.specs.Choices.{duty_choice}
+use Rattle.legal_journal.specs.Cuts.{sealed_snapshot}
+use Rattle.legal_journal.specs.Theorems.{IsConsistentCut}
 use Rattle.grape_hub.specs.HubValues.{HubValues}
 use Rattle.grape_hub.specs.declared.work.Work.{Work}
 use Rattle.grape_hub.specs.Calls.{Appended, IsWork, IsReady, MayGive}
-use Rattle.grape_hub.specs.States.{machine, beginning, state_of, workers_of, IsHub}
+use Rattle.grape_hub.specs.States.{machine, state_of, workers_of, sealed_epoch, IsHub}
 use Rattle.grape_hub.specs.Choices.{MayChoose}
 
 -- nobody is out
@@ -46,7 +49,7 @@ abbrev pub CalmIsFree : Type 0
 CalmIsFree = (h : HubValues) (lane : ℕ) → IsCalm h → has_work_out (state_of h) lane ≡ false
 
 abbrev pub CalmAtBeginning : Type 0
-CalmAtBeginning = (h : HubValues) → h.journal.events ≡ [] → IsCalm h
+CalmAtBeginning = (h : HubValues) → IsHub h → h.journal.events ≡ [] → IsCalm h
 
 abbrev pub CalmAfterTurn : Type 0
 CalmAfterTurn =
@@ -55,25 +58,25 @@ CalmAfterTurn =
 abbrev pub CalmAfterOther : Type 0
 CalmAfterOther = (old new : HubValues) (e : Event) → IsHub old → IsCalm old → is_take e ≡ false → Appended old e new → IsHub new → IsCalm new
 
--- Where nobody is out and a lane has nothing to do before the end, every worker rests and no mail waits.
+-- Without snapshots: where nobody is out and a lane has nothing to do before the end, every worker rests and no mail waits.
 abbrev pub IdleIsQuiet : Type 0
 IdleIsQuiet =
-    (h : HubValues) (lane : ℕ) → IsHub h → IsCalm h → has_ended (reverse h.journal.events) ≡ false → lane < h.job.settings.lanes → MayChoose (machine h) (state_of h) lane None →
+    (h : HubValues) (lane : ℕ) → IsHub h → h.job.settings.snapshot ≡ 0 → IsCalm h → has_ended (reverse h.journal.events) ≡ false → lane < h.job.settings.lanes → MayChoose (machine h) (state_of h) lane None →
     IsTrue (is_quiet (workers_of h))
 
--- Where nobody is out before the end, and there is no duty, any one lane can go on.
+-- Where nobody is out before the end, what is sealed is kept, and there is no duty, any one lane can go on.
 abbrev pub OneLaneGoesOn : Type 0
 OneLaneGoesOn =
-    (h : HubValues) (lane : ℕ) → IsHub h → IsCalm h → has_ended (reverse h.journal.events) ≡ false → lane < h.job.settings.lanes → duty_choice (machine h) (state_of h) ≡ None →
+    (h : HubValues) (lane : ℕ) → IsHub h → IsCalm h → sealed_epoch (state_of h).past ≡ None → has_ended (reverse h.journal.events) ≡ false → lane < h.job.settings.lanes → duty_choice (machine h) (state_of h) ≡ None →
     ¬ MayChoose (machine h) (state_of h) lane None
 
 -- A journal that ends by End has a quiet state: every worker rests and no mail waits.
 abbrev pub EndIsQuiet : Type 0
 EndIsQuiet = (h : HubValues) (journal : List Event) → IsHub h → h.journal.events ≡ journal ++ End ∷ [] → IsTrue (is_quiet (workers_of h))
 
--- The Takes and Gives of a hub's journal are a run of the base machine, from the beginning to the hub's workers.
+-- The Takes and Gives of a hub's journal are a run of the base machine, from its start to the hub's workers.
 abbrev pub HubsRun : Type 0
-HubsRun = (h : HubValues) → IsHub h → Runs (machine h) (base_state_of (beginning h)) (base_of (length (beginning h).parts) h.journal.events) (workers_of h)
+HubsRun = (h : HubValues) → IsHub h → Runs (machine h) (base_state_of h.start) (base_of (length h.start.parts) h.journal.events) (workers_of h)
 
 -- Whatever the order in which workers take and give: where a run of these equations from a fit start is quiet, the owners have the greatest solution.
 abbrev pub IsConfluent : Equations → Job → Type 0
@@ -81,10 +84,10 @@ IsConfluent e job =
     (g : Assignment) (start : SnapshotParts) (events : List BaseEvent) (ws : BaseState) → IsGreatest e g → IsFit (system_with e job) g (base_state_of start) →
     Runs (system_with e job) (base_state_of start) events ws → IsTrue (is_quiet ws) → (i p v : ℕ) → IsOwnedAt (pieces_of job) i p v → slice_index (worker_at ws i).values p ≡ g v
 
--- Where every worker rests and no mail waits, the owners have the greatest solution of the job's equations.
+-- From a fit start: where every worker rests and no mail waits, the owners have the greatest solution of the job's equations.
 abbrev pub QuietIsTheAnswer : Type 0
 QuietIsTheAnswer =
-    (h : HubValues) (g : Assignment) → IsHub h → IsGreatest (equations_of h.job) g → IsTrue (is_quiet (workers_of h)) →
+    (h : HubValues) (g : Assignment) → IsHub h → IsGreatest (equations_of h.job) g → IsFit (machine h) g (base_state_of h.start) → IsTrue (is_quiet (workers_of h)) →
     (i p v : ℕ) → IsOwnedAt (pieces_of h.job) i p v → slice_index (worker_at (workers_of h) i).values p ≡ g v
 
 -- how many events a job's journal has at most
@@ -93,3 +96,30 @@ event_bound h = (140 + 2 * h.job.settings.fragments) * (bound_of (machine h) + h
 
 abbrev pub JournalIsBounded : Type 0
 JournalIsBounded = (h : HubValues) → IsHub h → length h.journal.events ≤ event_bound h
+
+-- The cut of a sealed epoch is consistent: it runs from the hub's start to a state in which nobody runs and whose snapshot is the sealed one, and the other Takes and Gives run on from there to the hub's workers.
+abbrev pub CutsAreConsistent : Type 0
+CutsAreConsistent =
+    (h : HubValues) (epoch : ℕ) → IsHub h → Contains h.journal.events (Seal epoch) →
+    (ws : BaseState) × IsConsistentCut (machine h) h.start h.journal.events epoch ws
+
+-- A sealed snapshot is in the form, so that a hub may begin with it, and from a fit start it is a fit start itself.
+abbrev pub SealedMayBeResumed : Type 0
+SealedMayBeResumed =
+    (h : HubValues) (epoch : ℕ) (snapshot : SnapshotParts) → IsHub h → Contains h.journal.events (Seal epoch) →
+    sealed_snapshot (machine h) h.start epoch h.journal.events ≡ Some snapshot →
+    IsInForm (machine h) snapshot
+    × ((g : Assignment) → IsGreatest (equations_of h.job) g → IsFit (machine h) g (base_state_of h.start) → IsFit (machine h) g (base_state_of snapshot))
+
+-- The fresh snapshot of every job is in the form and is a fit start.
+abbrev pub FreshIsAStart : Type 0
+FreshIsAStart =
+    (job : Job) → IsJob job →
+    IsInForm (system_of job) (fresh_snapshot (system_of job))
+    × ((g : Assignment) → IsGreatest (equations_of job) g → IsFit (system_of job) g (base_state_of (fresh_snapshot (system_of job))))
+
+-- A hub whose job asks for no snapshots never seals one.
+abbrev pub NothingIsSealed : Type 0
+NothingIsSealed =
+    (h : HubValues) → IsHub h → h.job.settings.snapshot ≡ 0 →
+    (sealed_epoch (state_of h).past ≡ None) × ((epoch : ℕ) → duty_choice (machine h) (state_of h) ≡ Some (Seal epoch) → ⊥)

@@ -1,16 +1,18 @@
-ghost use Rattle.std.specs.Prelude.{◌≡◌, ◌-◌, ◌<◌, ◌≤◌, length};
+ghost use Rattle.std.specs.Prelude.{◌≡◌, ◌-◌, ◌<◌, ◌≤◌, IsTrue, length};
 ghost use Rattle.std.specs.List.{range_with_len};
 ghost use Rattle.legal_journal.specs.Delays.{has_enough};
-ghost use Rattle.grape_hub.specs.Kinds.{IsLeastRound, lesser, is_near, is_near_enough, turns_are_over, is_over, admits, holds_at, first_where, first_desk, first_of_kinds, kinds};
+ghost use Rattle.grape_hub.specs.Kinds.{IsLeastRound, lesser, is_near, is_near_enough, turns_are_over, is_over, is_unmarked, admits, holds_at, first_where, first_desk, first_of_kinds, kinds};
 
 use crate::desk::{Delay, Desk};
 use crate::kind::Kind;
 use crate::sight::Sight;
 use graph_core::Policy;
 use stop_probe::Probe;
+use token_cut::CutState;
 
 /// The kinds in the order in which a lane looks for them.
-const KINDS: [Kind; 6] = [
+const KINDS: [Kind; 7] = [
+    Kind::Mark,
     Kind::Take,
     Kind::Stretch,
     Kind::Ack,
@@ -83,6 +85,14 @@ fn has_enough(policy: &Policy, batches: u64) -> bool
     }
 }
 
+/// Whether a recording is open in which the worker isn't marked.
+fn is_unmarked(cut: &CutState, worker: u32) -> bool
+    requires { IsTrue cut.now.recording → worker < length cut.now.parts }
+    ensures { result ≡ is_unmarked worker cut.now }
+{
+    cut.recording() && !cut.marked(worker)
+}
+
 impl Desk {
     /// Whether the delay of the worker is over.
     fn is_over(&self, sight: &Sight) -> bool
@@ -92,14 +102,18 @@ impl Desk {
     }
 
     /// Whether an event of this kind of the worker with this number may come.
-    fn admits(&self, kind: Kind, sight: &Sight, probe: &Probe, worker: u32) -> bool
-        requires { worker < probe.now.workers }
-        ensures { result ≡ admits kind sight.now probe.now worker self.now }
+    fn admits(&self, kind: Kind, sight: &Sight, probe: &Probe, cut: &CutState, worker: u32) -> bool
+        requires probe { worker < probe.now.workers }
+        requires cut { IsTrue cut.now.recording → worker < length cut.now.parts }
+        ensures { result ≡ admits kind sight.now probe.now cut.now worker self.now }
     {
         match kind {
+            Kind::Mark => is_unmarked(cut, worker) && !self.is_out(),
             Kind::Take => {
                 (self.is_fresh() || self.rests() && self.has_mail() && self.is_over(sight))
                     && is_near_enough(&sight.policy, sight.least, self.round)
+                    && !sight.due
+                    && !(is_unmarked(cut, worker) && self.buffer.tagged() > 0)
             }
             Kind::Stretch => self.rests() && self.has_mail() && self.delay.is_none(),
             Kind::Ack => {
@@ -124,18 +138,20 @@ fn first_between(
     kind: Kind,
     sight: &Sight,
     probe: &Probe,
+    cut: &CutState,
     desks: &[Desk],
     from: usize,
     to: usize,
 ) -> Option<u32>
     requires few { length desks.now ≤ 64 }
     requires workers { probe.now.workers ≡ length desks.now }
+    requires parts { IsTrue cut.now.recording → length cut.now.parts ≡ length desks.now }
     requires from { from ≤ to }
     requires to { to ≤ length desks.now }
-    ensures { result ≡ first_where (holds_at (admits kind sight.now probe.now) desks.now) (range_with_len from (to - from)) }
+    ensures { result ≡ first_where (holds_at (admits kind sight.now probe.now cut.now) desks.now) (range_with_len from (to - from)) }
 {
     'desks: for worker in from..to {
-        if desks[worker].admits(kind, sight, probe, worker as u32) {
+        if desks[worker].admits(kind, sight, probe, cut, worker as u32) {
             return Some(worker as u32);
         }
     }
@@ -147,17 +163,19 @@ fn first_in_turn(
     kind: Kind,
     sight: &Sight,
     probe: &Probe,
+    cut: &CutState,
     desks: &[Desk],
     turn: usize,
 ) -> Option<u32>
     requires few { length desks.now ≤ 64 }
     requires workers { probe.now.workers ≡ length desks.now }
+    requires parts { IsTrue cut.now.recording → length cut.now.parts ≡ length desks.now }
     requires turn { turn ≤ length desks.now }
-    ensures { result ≡ first_desk (admits kind sight.now probe.now) desks.now turn }
+    ensures { result ≡ first_desk (admits kind sight.now probe.now cut.now) desks.now turn }
 {
-    match first_between(kind, sight, probe, desks, turn, desks.len()) {
+    match first_between(kind, sight, probe, cut, desks, turn, desks.len()) {
         Some(worker) => Some(worker),
-        None => first_between(kind, sight, probe, desks, 0, turn),
+        None => first_between(kind, sight, probe, cut, desks, 0, turn),
     }
 }
 
@@ -165,16 +183,18 @@ fn first_in_turn(
 pub fn first_of_kinds(
     sight: &Sight,
     probe: &Probe,
+    cut: &CutState,
     desks: &[Desk],
     turn: usize,
 ) -> Option<(Kind, u32)>
     requires few { length desks.now ≤ 64 }
     requires workers { probe.now.workers ≡ length desks.now }
+    requires parts { IsTrue cut.now.recording → length cut.now.parts ≡ length desks.now }
     requires turn { turn ≤ length desks.now }
-    ensures { result ≡ first_of_kinds sight.now probe.now desks.now turn kinds }
+    ensures { result ≡ first_of_kinds sight.now probe.now cut.now desks.now turn kinds }
 {
     'kinds: for kind in KINDS {
-        if let Some(worker) = first_in_turn(kind, sight, probe, desks, turn) {
+        if let Some(worker) = first_in_turn(kind, sight, probe, cut, desks, turn) {
             return Some((kind, worker));
         }
     }

@@ -1,8 +1,8 @@
-ghost use Rattle.std.specs.Prelude.{◌≡◌, ◌≤◌, [], length};
+ghost use Rattle.std.specs.Prelude.{◌≡◌, ◌≤◌, [], length, map};
 ghost use Rattle.std.specs.Vec.{vec_capacity};
 ghost use Rattle.message_buffer.specs.Buffers.{batches_in};
 ghost use Rattle.legal_journal.specs.Delays.{stretch_turns};
-ghost use Rattle.grape_hub.specs.Desks.{AreHere, HandFits, IsHere, HasLocal, HaveLocals, TakesFrom, is_out, is_fresh_at, rests_at, has_mail, is_busy_at, with_arrival, rested_desk};
+ghost use Rattle.grape_hub.specs.Desks.{AreHere, HandFits, IsHere, HasLocal, HaveLocals, TakesFrom, is_out, is_fresh_at, rests_at, has_mail, is_busy_at, with_arrival, rested_desk, folded_desk, MayRecord, Records};
 ghost use Rattle.grape_hub.specs.Posting.{CanReceive};
 
 use crate::sender::Sender;
@@ -11,6 +11,7 @@ use graph_core::Policy;
 use message_buffer::{Buffer, Hand};
 use pie_core::Local;
 use std::mem::replace;
+use token_cut::{CutState, Phase};
 
 /// Where the values of a worker are, and the hand that it takes its mail into.
 #[derive(Drop)]
@@ -46,6 +47,8 @@ pub struct Desk {
     pub pulse: Pulse,
     /// The mail that waits.
     pub buffer: Buffer,
+    /// Whether the worker took in this journal.
+    pub begun: bool,
 }
 
 impl Desk {
@@ -104,24 +107,24 @@ impl Desk {
     /// Begins a batch. A worker that rests without mail catches up with the round of the sender. Takes no memory.
     pub fn receive(&mut self, sender: Sender)
         requires { CanReceive sender.place self.old }
-        ensures { self.new ≡ with_arrival sender.place sender.round self.old }
+        ensures { self.new ≡ with_arrival sender self.old }
     {
         if self.rests() && !self.has_mail() {
             self.round = self.round.max(sender.round);
         }
         self.pulse.arrived(sender.place);
-        self.buffer.begin_batch(false);
+        self.buffer.begin_batch(sender.tagged);
     }
 
     /// Hands out the values, with all mail that waits in the hand, to a lane whose Take stands at this place. Says first
-    /// whether the worker is fresh.
+    /// whether the worker takes for the first time in this journal.
     pub fn take(&mut self, lane: u32, place: u64) -> (bool, Local, Hand)
         requires { HandFits self.old self.old.seat }
         ensures { TakesFrom self.old self.old.seat lane place result self.new }
     {
         let seat = replace(&mut self.seat, Seat::Out { lane, place });
         let Seat::Here {
-            fresh,
+            fresh: _fresh,
             local,
             mut hand,
         } = seat
@@ -130,7 +133,30 @@ impl Desk {
         };
         self.buffer.take(&mut hand);
         self.delay = None;
-        (fresh, local, hand)
+        let first = !self.begun;
+        self.begun = true;
+        (first, local, hand)
+    }
+
+    /// Marks the worker with this number in an open recording. Its values are here.
+    pub fn record(&self, worker: u32, cut: &mut CutState)
+        requires { MayRecord self.now worker cut.old }
+        ensures { Records self.now worker cut.old cut.new }
+    {
+        match &self.seat {
+            Seat::Here { fresh, local, .. } => {
+                let phase = if *fresh { Phase::Fresh } else { Phase::Rest };
+                cut.mark(worker, phase, local.values(), self.buffer.plain());
+            }
+            Seat::Out { .. } => unreachable!(),
+        }
+    }
+
+    /// Takes the tokens off all batches that wait.
+    pub fn fold(&mut self)
+        ensures { self.new ≡ folded_desk self.old }
+    {
+        self.buffer.fold();
     }
 
     /// Takes the values back from a lane, with the hand. A new round begins.
@@ -156,6 +182,7 @@ impl Desk {
             round: _round,
             pulse: _pulse,
             buffer: _buffer,
+            begun: _begun,
         } = self;
         match seat {
             Seat::Here {
@@ -180,4 +207,13 @@ pub fn into_locals(desks: Vec<Desk>, empty: Vec<Local>) -> Vec<Local>
         locals.push_reserved(desk.into_local());
     }
     locals
+}
+
+/// Takes the tokens off all batches that wait for any worker.
+pub fn fold_mail(desks: &mut [Desk])
+    ensures { desks.new ≡ map folded_desk desks.old }
+{
+    'desks: for desk in desks.iter_mut() {
+        desk.fold();
+    }
 }

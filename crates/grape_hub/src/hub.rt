@@ -1,24 +1,25 @@
-ghost use Rattle.std.specs.Prelude.{◌≡◌, ◌+◌, ◌<◌, ◌≤◌, [], true, false, nat_lt, if◌then◌else◌, count_by, reverse, IfOk, IfSome, OnOk, OnErr};
+ghost use Rattle.std.specs.Prelude.{◌≡◌, ◌&&◌, not, ◌+◌, ◌<◌, ◌≤◌, [], None, true, false, nat_lt, if◌then◌else◌, count_by, reverse, IfOk, IfSome, OnOk, OnErr};
 ghost use Rattle.graph_core.specs.Graphs.{IsJob};
 ghost use Rattle.graph_core.specs.Fragments.{fragments_of};
-ghost use Rattle.token_cut.specs.Parts.{SnapshotParts};
-ghost use Rattle.grape_event.specs.declared.event.Event.TheVariants.{Take, Give, Stop};
-ghost use Rattle.base_machine.specs.Machine.{worker_at, is_running, system_of, fresh_snapshot};
+ghost use Rattle.grape_event.specs.declared.event.Event.TheVariants.{Take, Give, Begin, Mark, Seal, Kept, Stop};
+ghost use Rattle.base_machine.specs.Machine.{worker_at, is_running, system_of};
+ghost use Rattle.base_machine.specs.Fitness.{IsInForm};
 ghost use Rattle.legal_journal.specs.Past.{has_ended};
 ghost use Rattle.legal_journal.specs.Legal.{has_work_out, is_admitted};
 ghost use Rattle.legal_journal.specs.Choices.{duty_choice};
-ghost use Rattle.grape_hub.specs.States.{machine, beginning, state_of, workers_of, IsHub};
+ghost use Rattle.grape_hub.specs.States.{machine, state_of, workers_of, sealed_epoch, events_owed, IsHub};
 ghost use Rattle.grape_hub.specs.Choices.{IsChoice};
-ghost use Rattle.grape_hub.specs.Calls.{Appended, AppendedUnlessEnded, Unchanged, Begins, Chooses, ChoosesDuty, TakesWorker, MayStretch, StretchesWorker, IsNote, NotesEvent, ReadyWhereTook, MayGive, HaveValues, HaveSizes};
+ghost use Rattle.grape_hub.specs.Calls.{Appended, AppendedUnlessEnded, Unchanged, Begins, Chooses, ChoosesDuty, TakesWorker, MayStretch, StretchesWorker, IsNote, NotesEvent, NotesDuty, SealsEpoch, WritesSealed, HasSizesOf, MayKeep, ReadyWhereTook, MayGive, HaveValues, HaveSizes};
 ghost use Rattle.grape_hub.specs.Theorems.{IsCalm};
 ghost use Rattle.grape_hub.specs.Desks.{is_out};
 
 use crate::choice::{first_of_kinds, least_round};
-use crate::desk::{Delay, Desk, Seat, into_locals};
+use crate::counts::Counts;
+use crate::desk::{Delay, Desk, fold_mail, into_locals};
 use crate::hearing::hear;
 use crate::kind::Kind;
-use crate::open::{desks_of, routes_of};
-use crate::posting::post_changes;
+use crate::open::{cut_of, desks_of, routes_of};
+use crate::posting::{carry_token, post_changes};
 use crate::sender::Sender;
 use crate::sight::Sight;
 use crate::work::{Duty, Next, Work};
@@ -30,7 +31,7 @@ use pie_core::{Local, Pie};
 use std::alloc::Global;
 use std::marker::Model;
 use stop_probe::Probe;
-use token_cut::Snapshot;
+use token_cut::{CutState, Snapshot};
 
 /// How many turns a pacer adds to a Stretch at most.
 const MOST_EXTRA: u32 = 64;
@@ -40,10 +41,9 @@ const MOST_EXTRA: u32 = 64;
 /// A worker takes all mail that waits for it, a lane evaluates that, and gives the values back; each owned value that
 /// became lower is sent to the workers that mirror its vertex. The policy says when a worker may go on, a delay lets
 /// mail gather before, and a pacer of its own may add to that. Once all workers rest, a probe asks each of them whether
-/// the run may end. The journal determines all that the hub holds but its pacers. Contracts see the job, the journal and
-/// the sizes that the program asks for.
-///
-/// So far there are no snapshots.
+/// the run may end. Every so many Takes a snapshot is due: a recording opens, each worker is marked in it, and once all
+/// are it is sealed. The start and the journal determine all that the hub holds but its pacers. Contracts see the job,
+/// the start, the journal and the sizes that the program asks for.
 #[derive(Drop)]
 pub struct Hub<P: Pie, Q: Pacer> {
     program: P,
@@ -52,6 +52,8 @@ pub struct Hub<P: Pie, Q: Pacer> {
     desks: Vec<Desk>,
     pacers: Vec<Q>,
     probe: Probe,
+    cut: CutState,
+    counts: Counts,
     journal: Journal,
     turn: u32,
     start: Snapshot,
@@ -63,24 +65,25 @@ impl<P: Pie, Q: Pacer> Model for Hub<P, Q> {
     ghost use Rattle.std.specs.Prelude.{◌≡◌, ◌≤◌, [], length};
     ghost use Rattle.std.specs.Vec.{vec_capacity};
     ghost use Rattle.grape_hub.specs.HubValues.{HubValues};
-    ghost use Rattle.grape_hub.specs.States.{machine, beginning, state_of, IsHub};
+    ghost use Rattle.grape_hub.specs.States.{machine, state_of, IsHub};
     ghost use Rattle.grape_hub.specs.Desks.{TablesFit};
 
     ghost Value = { HubValues };
 
-    ghost view = { λ h. record { job = h.job; counters = P.counters_for h.job; journal = h.journal } };
+    ghost view = { λ h. record { job = h.job; counters = P.counters_for h.job; start = h.start; journal = h.journal } };
 
     ghost invariant = { λ h. P.is_for h.program h.job
-        × IsHub (record { job = h.job; counters = P.counters_for h.job; journal = h.journal })
-        × TablesFit (machine (record { job = h.job; counters = P.counters_for h.job; journal = h.journal })) (state_of (record { job = h.job; counters = P.counters_for h.job; journal = h.journal })) (P.counters_for h.job) h.routes.items h.desks.items h.probe h.turn
-        × (h.start ≡ beginning (record { job = h.job; counters = P.counters_for h.job; journal = h.journal }))
+        × IsHub (record { job = h.job; counters = P.counters_for h.job; start = h.start; journal = h.journal })
+        × TablesFit (machine (record { job = h.job; counters = P.counters_for h.job; start = h.start; journal = h.journal })) (state_of (record { job = h.job; counters = P.counters_for h.job; start = h.start; journal = h.journal })) (P.counters_for h.job)
+        (record { routes = h.routes.items; desks = h.desks.items; probe = h.probe; cut = h.cut; counts = h.counts; turn = h.turn })
         × (h.locals.items ≡ []) × (length h.desks.items ≤ vec_capacity h.locals) };
 }
 
 impl<P: Pie, Q: Pacer> Hub<P, Q> {
-    /// A hub at the beginning: each worker is fresh with the start values, no mail waits, and the journal is empty. The
-    /// program is that of the job's query, the fragments are the job's, and the start is the fresh snapshot. A worker
-    /// past the last pacer has none, which adds no turns. The hub keeps a copy of the job and of the fragments' routes.
+    /// A hub at its start: each worker is as its part of the start has it, and the journal is empty. The program is that of
+    /// the job's query, the fragments are the job's, and the start is in the form of the job's snapshots, or fresh. A
+    /// worker past the last pacer has none, which adds no turns. The hub keeps a copy of the job and of the fragments'
+    /// routes. After this only the journal takes memory.
     pub fn open(
         alloc: Global,
         program: P,
@@ -92,9 +95,8 @@ impl<P: Pie, Q: Pacer> Hub<P, Q> {
         requires job { IsJob job.now }
         requires program { P.is_for program job.now }
         requires fragments { fragments.now ≡ fragments_of job.now }
-        requires start { start ≡ fresh_snapshot (system_of job.now) }
-        requires snapshot { job.now.settings.snapshot ≡ 0 }
-        ensures beginning { IfOk result (λ hub. Begins job.now (P.counters_for job.now) hub) }
+        requires start { IsInForm (system_of job.now) start }
+        ensures beginning { IfOk result (λ hub. Begins job.now (P.counters_for job.now) start hub) }
         ensures hub { IfOk result (λ hub. IsHub hub) }
     {
         let order = program.order();
@@ -103,7 +105,13 @@ impl<P: Pie, Q: Pacer> Hub<P, Q> {
         journal.reserve(1)?;
         Ok(Hub {
             routes: routes_of(alloc, fragments)?,
-            desks: desks_of(alloc, job, fragments, order, counters)?,
+            desks: desks_of(alloc, fragments, &start, order, counters)?,
+            cut: cut_of(alloc, job, fragments, order)?,
+            counts: Counts {
+                epoch: start.epoch,
+                takes: 0,
+                sealed: None,
+            },
             job: job.copy(alloc)?,
             program,
             pacers,
@@ -115,11 +123,12 @@ impl<P: Pie, Q: Pacer> Hub<P, Q> {
         })
     }
 
-    /// Appends the first event in the order of choice that is admitted and concerns this lane: a Take of a worker that may
-    /// go on, or else a Stretch, an answer to the probe, a Flag or a Hold, in turn from the worker after that of the last
-    /// Take. `Idle` comes exactly where none is admitted and the journal hasn't ended, and `Ended` where it has. The lane
-    /// has no Work out. Room for the event, for a Give of each worker that is out and for a Stop is made first; then the
-    /// worker's pacer is asked, once for each Stretch.
+    /// Appends the first event in the order of choice that is admitted and concerns this lane: a Mark in an open recording,
+    /// or else a Take of a worker that may go on, a Stretch, an answer to the probe, a Flag or a Hold, in turn from the
+    /// worker after that of the last Take. While a recording is open no unmarked worker takes mail of a marked one, and
+    /// while a snapshot is due nobody takes. `Idle` comes exactly where none is admitted and the journal hasn't ended, and
+    /// `Ended` where it has. The lane has no Work out. Room for the event, for a Give of each worker that is out, for the
+    /// Kept of a sealed snapshot and for a Stop is made first; then the worker's pacer is asked, once for each Stretch.
     pub fn next(&mut self, lane: u32) -> Next
         requires lane { lane < self.old.job.settings.lanes }
         requires free { has_work_out (state_of self.old) lane ≡ false }
@@ -134,6 +143,7 @@ impl<P: Pie, Q: Pacer> Hub<P, Q> {
             return Next::Idle;
         };
         match kind {
+            Kind::Mark => self.mark(worker),
             Kind::Take => self.take(worker, lane),
             Kind::Stretch => self.stretch(worker),
             Kind::Ack => self.did(Event::Ack { worker }),
@@ -143,12 +153,15 @@ impl<P: Pie, Q: Pacer> Hub<P, Q> {
         }
     }
 
-    /// Appends the first admitted event of Seal, End, Begin and Ask. `Nothing` comes exactly where none is admitted and the
-    /// journal hasn't ended, and `Ended` where it has. Room for the event, for a Give of each worker that is out and for
-    /// a Stop is made first. A sealed snapshot will be written into `into`; so far there are none.
+    /// Appends the first admitted event of Seal, End, Begin and Ask. `Sealed` comes where it is a Seal, and the snapshot of
+    /// that epoch is then in `into`. `Nothing` comes exactly where none is admitted and the journal hasn't ended, and
+    /// `Ended` where it has. Nothing is sealed and not kept, and `into` has the sizes of the job's snapshots. Room for the
+    /// event, for a Give of each worker that is out, for a Kept after a Seal and for a Stop is made first.
     pub fn duty(&mut self, into: &mut Snapshot) -> Duty
+        requires kept { sealed_epoch (state_of self.old).past ≡ None }
+        requires sizes { HasSizesOf self.old into.old }
         ensures chosen { ChoosesDuty self.old result self.new }
-        ensures into { into.new ≡ into.old }
+        ensures written { WritesSealed result self.new into.old into.new }
         ensures hub { IsHub self.new }
     {
         if self.journal.ended() {
@@ -157,10 +170,27 @@ impl<P: Pie, Q: Pacer> Hub<P, Q> {
         let Some(event) = self.duty_event() else {
             return Duty::Nothing;
         };
-        match self.note(event) {
-            Ok(()) => Duty::Did(event),
-            Err(NoMemory) => Duty::NoMemory,
+        match event {
+            Event::Seal { epoch } => self.seal(epoch, into),
+            Event::Begin { epoch } => self.begin(epoch),
+            _ => match self.note(event) {
+                Ok(()) => Duty::Did(event),
+                Err(NoMemory) => Duty::NoMemory,
+            },
         }
+    }
+
+    /// Appends the Kept of the epoch that is sealed and not kept yet, where the journal hasn't ended. Takes no memory.
+    pub fn kept(&mut self, epoch: u64)
+        requires { MayKeep self.old epoch }
+        ensures kept { AppendedUnlessEnded self.old (Kept epoch) self.new }
+        ensures hub { IsHub self.new }
+    {
+        if self.journal.ended() {
+            return;
+        }
+        self.journal.push(Event::Kept { epoch });
+        self.counts.sealed = None;
     }
 
     /// Appends a Stop, where the journal hasn't ended. Takes no memory.
@@ -186,24 +216,106 @@ impl<P: Pie, Q: Pacer> Hub<P, Q> {
             policy: self.job.settings.policy,
             clock: self.journal.len(),
             least: least_round(&self.desks),
+            due: self.counts.is_due(self.job.settings.snapshot),
         };
-        first_of_kinds(&sight, &self.probe, &self.desks, self.turn as usize)
+        first_of_kinds(
+            &sight,
+            &self.probe,
+            &self.cut,
+            &self.desks,
+            self.turn as usize,
+        )
     }
 
     /// The coordinator's choice.
     fn duty_event(&self) -> Option<Event>
+        requires kept { sealed_epoch (state_of self.now).past ≡ None }
         requires going { has_ended (reverse self.now.journal.events) ≡ false }
         ensures choice { duty_choice (machine self.now) (state_of self.now) ≡ result }
-        ensures note { IfSome result IsNote }
         ensures hub { IsHub self.now }
     {
-        if self.probe.may_end() {
+        if self.cut.complete() {
+            return Some(Event::Seal {
+                epoch: self.counts.epoch,
+            });
+        }
+        let recording = self.cut.recording();
+        if may_once_closed(recording, self.probe.may_end()) {
             return Some(Event::End);
+        }
+        let due = self.counts.is_due(self.job.settings.snapshot);
+        if may_once_closed(recording, due) {
+            return Some(Event::Begin {
+                epoch: self.counts.epoch + 1,
+            });
         }
         if self.probe.may_ask() {
             return Some(Event::Ask);
         }
         None
+    }
+
+    /// Appends the Mark of a worker that isn't out, and records its phase, its values and its untagged mail.
+    fn mark(&mut self, worker: u32) -> Next
+        requires admitted { is_admitted (machine self.old) (state_of self.old) (Mark worker) ≡ true }
+        ensures did { NotesEvent self.old (Mark worker) result self.new }
+        ensures hub { IsHub self.new }
+    {
+        let room = self.room_owed(1);
+        if self.journal.reserve(room).is_err() {
+            return Next::NoMemory;
+        }
+        self.desks[worker as usize].record(worker, &mut self.cut);
+        let event = Event::Mark { worker };
+        self.journal.push(event);
+        Next::Did(event)
+    }
+
+    /// Appends the Begin of a snapshot: a recording opens, in which nobody is marked.
+    fn begin(&mut self, epoch: u64) -> Duty
+        requires admitted { is_admitted (machine self.old) (state_of self.old) (Begin epoch) ≡ true }
+        ensures begun { NotesDuty self.old (Begin epoch) result self.new }
+        ensures hub { IsHub self.new }
+    {
+        let room = self.room_owed(1);
+        if self.journal.reserve(room).is_err() {
+            return Duty::NoMemory;
+        }
+        self.cut.begin(epoch);
+        self.counts.epoch = epoch;
+        self.counts.takes = 0;
+        let event = Event::Begin { epoch };
+        self.journal.push(event);
+        Duty::Did(event)
+    }
+
+    /// Appends the Seal of a recording in which every worker is marked, and writes the snapshot. All tokens fall.
+    fn seal(&mut self, epoch: u64, into: &mut Snapshot) -> Duty
+        requires kept { sealed_epoch (state_of self.old).past ≡ None }
+        requires admitted { is_admitted (machine self.old) (state_of self.old) (Seal epoch) ≡ true }
+        requires sizes { HasSizesOf self.old into.old }
+        ensures sealed { SealsEpoch self.old epoch result self.new }
+        ensures written { WritesSealed result self.new into.old into.new }
+        ensures hub { IsHub self.new }
+    {
+        let room = self.room_owed(2);
+        if self.journal.reserve(room).is_err() {
+            return Duty::NoMemory;
+        }
+        self.cut.seal(into);
+        fold_mail(&mut self.desks);
+        self.counts.sealed = Some(epoch);
+        self.journal.push(Event::Seal { epoch });
+        Duty::Sealed(epoch)
+    }
+
+    /// The room for so many events, for a Give of each worker that is out, for a Kept that is awaited and for a Stop.
+    fn room_owed(&self, events: u64) -> u64
+        requires { events ≤ 2 }
+        ensures room { result ≡ events_owed (state_of self.now) + events }
+        ensures hub { IsHub self.now }
+    {
+        works_out(&self.desks) + self.counts.kepts_owed() + 1 + events
     }
 
     /// Appends the Take of a worker that isn't out.
@@ -214,8 +326,8 @@ impl<P: Pie, Q: Pacer> Hub<P, Q> {
         ensures hub { IsHub self.new }
     {
         let count = self.desks.len();
-        let out = works_out(&self.desks);
-        if self.journal.reserve(out + 3).is_err() {
+        let room = self.room_owed(2);
+        if self.journal.reserve(room).is_err() {
             return Next::NoMemory;
         }
         let place = self.journal.len();
@@ -224,6 +336,7 @@ impl<P: Pie, Q: Pacer> Hub<P, Q> {
         hear(&mut self.probe, event);
         self.journal.push(event);
         self.turn = following(worker, count);
+        self.counts.takes += 1;
         Next::Took(Work {
             worker,
             place,
@@ -239,8 +352,8 @@ impl<P: Pie, Q: Pacer> Hub<P, Q> {
         ensures stretched { StretchesWorker self.old worker result self.new }
         ensures hub { IsHub self.new }
     {
-        let out = works_out(&self.desks);
-        if self.journal.reserve(out + 2).is_err() {
+        let room = self.room_owed(1);
+        if self.journal.reserve(room).is_err() {
             return Next::NoMemory;
         }
         let place = self.journal.len();
@@ -276,16 +389,17 @@ impl<P: Pie, Q: Pacer> Hub<P, Q> {
         ensures no_memory { OnErr result (Unchanged self.old self.new) }
         ensures hub { IsHub self.new }
     {
-        let out = works_out(&self.desks);
-        self.journal.reserve(out + 2)?;
+        let room = self.room_owed(1);
+        self.journal.reserve(room)?;
         hear(&mut self.probe, event);
         self.journal.push(event);
         Ok(())
     }
 
     /// Appends the Give of the Work that the lane has out, and sends each owned value that became lower along its routes.
-    /// The values are the local solution of those at the Take lowered by the hand. Where the journal has ended nothing is
-    /// appended, and the values are given up. Takes no memory.
+    /// The values are the local solution of those at the Take lowered by the hand. While a recording is open the batches of
+    /// a marked worker carry its token, and those of another lower what is recorded of marked workers. Where the journal
+    /// has ended nothing is appended, and the values are given up. Takes no memory.
     pub fn give(&mut self, lane: u32, work: Work)
         requires { MayGive self.old lane work }
         ensures given { AppendedUnlessEnded self.old (Give work.worker) self.new }
@@ -304,8 +418,14 @@ impl<P: Pie, Q: Pacer> Hub<P, Q> {
         let place = self.journal.len();
         self.journal.push(Event::Give { worker });
         let round = self.desks[index].round + 1;
-        let sender = Sender { place, round };
-        post_changes(sender, &self.routes[index], &local, &mut self.desks);
+        let tagged = carry_token(&self.cut, worker);
+        let sender = Sender {
+            place,
+            round,
+            tagged,
+        };
+        let routes = &self.routes[index];
+        post_changes(sender, routes, &local, &mut self.desks, &mut self.cut);
         local.settle();
         self.desks[index].rest(round, local, hand);
     }
@@ -325,7 +445,7 @@ impl<P: Pie, Q: Pacer> Hub<P, Q> {
         ensures values { HaveValues self result.0.items }
         ensures sizes { HaveSizes self result.0.items }
         ensures journal { result.1 ≡ self.journal }
-        ensures start { result.2 ≡ beginning self }
+        ensures start { result.2 ≡ self.start }
     {
         let Hub {
             desks,
@@ -346,6 +466,13 @@ fn extra_of<Q: Pacer>(pacers: &mut [Q], worker: u32, waiting: u32) -> u32
         Some(pacer) => pacer.extra(worker, waiting).min(MOST_EXTRA),
         None => 0,
     }
+}
+
+/// Whether an event may come that waits until no recording is open.
+fn may_once_closed(recording: bool, may: bool) -> bool
+    ensures { result ≡ (not recording && may) }
+{
+    !recording && may
 }
 
 /// How many workers are out.

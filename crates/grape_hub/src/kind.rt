@@ -1,6 +1,7 @@
 /// A kind of event that a lane looks for.
 #[derive(Clone, Copy)]
 pub enum Kind {
+    Mark,
     Take,
     Stretch,
     Ack,

@@ -1,6 +1,6 @@
 ghost use Rattle.graph_core.specs.declared.job.Job.{Job};
 ghost use Rattle.graph_core.specs.Graphs.{IsJob};
-ghost use Rattle.grape_hub.specs.Theorems.{WorksMayBeEvaluated, EvaluatedMayBeGiven, CalmIsFree, CalmAtBeginning, CalmAfterTurn, CalmAfterOther, IdleIsQuiet, OneLaneGoesOn, EndIsQuiet, HubsRun, IsConfluent, QuietIsTheAnswer, JournalIsBounded};
+ghost use Rattle.grape_hub.specs.Theorems.{NothingIsSealed, WorksMayBeEvaluated, EvaluatedMayBeGiven, CalmIsFree, CalmAtBeginning, CalmAfterTurn, CalmAfterOther, IdleIsQuiet, OneLaneGoesOn, EndIsQuiet, HubsRun, IsConfluent, QuietIsTheAnswer, JournalIsBounded, CutsAreConsistent, SealedMayBeResumed, FreshIsAStart};
 
 use pie_core::Pie;
 
@@ -18,12 +18,12 @@ pub fn turns_are_calm()
     ensures other { CalmAfterOther }
 {}
 
-/// Where nobody is out and a lane has nothing to do, every worker rests and no mail waits.
+/// Without snapshots: where nobody is out and a lane has nothing to do, every worker rests and no mail waits.
 pub fn idle_is_quiet()
     ensures { IdleIsQuiet }
 {}
 
-/// Where nobody is out and the coordinator has no duty, any one lane has something to do.
+/// Where nobody is out, what is sealed is kept, and the coordinator has no duty, any one lane has something to do.
 pub fn one_lane_goes_on()
     ensures { OneLaneGoesOn }
 {}
@@ -33,10 +33,15 @@ pub fn end_is_quiet()
     ensures { EndIsQuiet }
 {}
 
-/// Where every worker rests and no mail waits, the values of the owners are the greatest solution, whatever the order in
-/// which the workers went on.
+/// From a fit start: where every worker rests and no mail waits, the values of the owners are the greatest solution,
+/// whatever the order in which the workers went on.
 pub fn quiet_is_the_answer()
     ensures { QuietIsTheAnswer }
+{}
+
+/// Where a job asks for no snapshots, none is sealed.
+pub fn nothing_is_sealed()
+    ensures { NothingIsSealed }
 {}
 
 /// The Takes and Gives of a hub's journal are a run of the base machine.
@@ -53,4 +58,15 @@ pub fn every_program_is_confluent<P: Pie>(program: &P)
 /// A hub's journal has at most so many events.
 pub fn hubs_are_bounded()
     ensures { JournalIsBounded }
+{}
+
+/// A sealed snapshot is of a cut of the hub's run, in which nobody runs, and a hub may begin with it.
+pub fn cuts_are_consistent()
+    ensures cut { CutsAreConsistent }
+    ensures resumed { SealedMayBeResumed }
+{}
+
+/// The fresh snapshot of every job is in the form, and is a fit start.
+pub fn fresh_is_a_start()
+    ensures { FreshIsAStart }
 {}

@@ -6,6 +6,7 @@
 #![tactic(auto)]
 
 mod choice;
+mod counts;
 mod desk;
 mod hearing;
 mod hub;
@@ -19,7 +20,8 @@ mod work;
 
 pub use hub::Hub;
 pub use laws::{
-    end_is_quiet, every_program_is_confluent, hubs_are_bounded, hubs_run, idle_is_quiet,
-    one_lane_goes_on, quiet_is_the_answer, turns_are_calm, works_go_round,
+    cuts_are_consistent, end_is_quiet, every_program_is_confluent, fresh_is_a_start,
+    hubs_are_bounded, hubs_run, idle_is_quiet, nothing_is_sealed, one_lane_goes_on,
+    quiet_is_the_answer, turns_are_calm, works_go_round,
 };
 pub use work::{Duty, Next, Work};

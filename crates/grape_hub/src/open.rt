@@ -1,9 +1,12 @@
-ghost use Rattle.std.specs.Prelude.{◌≡◌, ◌<◌, ◌++◌, map, All, IfOk};
-ghost use Rattle.graph_core.specs.Graphs.{count_of, IsJob};
-ghost use Rattle.graph_core.specs.Queries.{equations_of};
-ghost use Rattle.graph_core.specs.Fragments.{fragments_of};
-ghost use Rattle.pie_core.specs.Solutions.{starts_of};
-ghost use Rattle.grape_hub.specs.Openings.{new_desk, HasFewOwned, IsPartOf};
+ghost use Rattle.std.specs.Prelude.{◌≡◌, ◌^◌, ◌<◌, ◌≤◌, ◌==◌, false, not, map, length, All, IfOk};
+ghost use Rattle.std.specs.List.{AllZip, AllByRecursion, list_any};
+ghost use Rattle.value_order.specs.declared.TheConstants.{NOTHING};
+ghost use Rattle.graph_core.specs.Parts.{place_count};
+ghost use Rattle.base_machine.specs.Machine.{posts_from};
+ghost use Rattle.message_buffer.specs.Buffers.{batches_in};
+ghost use Rattle.token_cut.specs.Shapes.{IsPartShape, sizes_in};
+ghost use Rattle.grape_hub.specs.Posting.{with_posts};
+ghost use Rattle.grape_hub.specs.Openings.{new_desk, new_desks, with_start_mail, HasFewPlaces, IsPartFor, HasPlacesOf, IsEmptyCut};
 
 use crate::desk::{Desk, Seat};
 use delay_stretch::Pulse;
@@ -12,11 +15,12 @@ use graph_core::{Fragment, Job, Route, Rows};
 use message_buffer::{Buffer, Hand};
 use pie_core::Local;
 use std::alloc::Global;
-use value_order::Order;
+use token_cut::{CutState, Part, Phase, Shape, ShapePart, Snapshot};
+use value_order::{NOTHING, Order};
 
 /// The routes of each fragment.
 pub fn routes_of(alloc: Global, fragments: &[Fragment]) -> Result<Vec<Rows<Route>>, NoMemory>
-    requires { All HasFewOwned fragments.now }
+    requires { All HasFewPlaces fragments.now }
     ensures { IfOk result (λ routes. routes.items ≡ map (λ part. part.routes) fragments.now) }
 {
     let mut routes = Vec::with_capacity(alloc, fragments.len())?;
@@ -28,7 +32,7 @@ pub fn routes_of(alloc: Global, fragments: &[Fragment]) -> Result<Vec<Rows<Route
 
 /// The routes of each owned place.
 fn routes_of_part(alloc: Global, part: &Fragment) -> Result<Rows<Route>, NoMemory>
-    requires { HasFewOwned part.now }
+    requires { HasFewPlaces part.now }
     ensures { IfOk result (λ rows. rows ≡ part.now.routes) }
 {
     let owned = part.owned().len();
@@ -39,52 +43,26 @@ fn routes_of_part(alloc: Global, part: &Fragment) -> Result<Rows<Route>, NoMemor
     Ok(rows)
 }
 
-/// Adds the start value of each vertex.
-fn push_starts(job: &Job, vertices: &[u32], starts: &mut Vec<u64>) -> Result<(), NoMemory>
-    requires job { IsJob job.now }
-    requires vertices { All (λ vertex. vertex < count_of job.now.graph) vertices.now }
-    ensures { IfOk result (λ ok. starts.new.items ≡ starts.old.items ++ starts_of (equations_of job.now) vertices.now) }
-{
-    'vertices: for vertex in vertices {
-        starts.push(job.start_of(*vertex))?;
-    }
-    Ok(())
-}
-
-/// The start values of a fragment's places.
-fn starts(alloc: Global, job: &Job, part: &Fragment) -> Result<Vec<u64>, NoMemory>
-    requires job { IsJob job.now }
-    requires part { IsPartOf job.now part.now }
-    ensures { IfOk result (λ starts. starts.items ≡ starts_of (equations_of job.now) (part.now.owned ++ part.now.mirrors)) }
-{
-    let places = part.owned().len() + part.mirrors().len();
-    let mut starts = Vec::with_capacity(alloc, places)?;
-    push_starts(job, part.owned(), &mut starts)?;
-    push_starts(job, part.mirrors(), &mut starts)?;
-    Ok(starts)
-}
-
-/// The desk of a fresh worker.
+/// The desk of a worker as the part of a snapshot has it.
 fn desk_of(
     alloc: Global,
-    job: &Job,
     part: &Fragment,
+    from: &Part,
     order: Order,
     counters: u32,
 ) -> Result<Desk, NoMemory>
-    requires job { IsJob job.now }
-    requires part { IsPartOf job.now part.now }
-    ensures { IfOk result (λ desk. desk ≡ new_desk job.now order counters part.now) }
+    requires part { IsPartFor part.now from.now }
+    ensures { IfOk result (λ desk. desk ≡ new_desk order counters part.now from.now) }
 {
-    let starts = starts(alloc, job, part)?;
     let mirrors = part.mirrors().len() as u32;
     let mut local = Local::new(alloc, part, counters)?;
-    local.load(&starts);
+    local.load(&from.values);
     let hand = Hand::new(alloc, order, mirrors)?;
-    let buffer = Buffer::new(alloc, order, mirrors)?;
+    let mut buffer = Buffer::new(alloc, order, mirrors)?;
+    post_start_mail(&from.mail, &mut buffer);
     Ok(Desk {
         seat: Seat::Here {
-            fresh: true,
+            fresh: matches!(from.phase, Phase::Fresh),
             local,
             hand,
         },
@@ -92,24 +70,99 @@ fn desk_of(
         round: 0,
         pulse: Pulse::new(alloc)?,
         buffer,
+        begun: false,
     })
 }
 
-/// The desks of fresh workers, one for each fragment.
+/// Posts the mail of a snapshot's part as one untagged batch, where there is some.
+fn post_start_mail(mail: &[u64], buffer: &mut Buffer)
+    requires mirrors { length mail.now ≤ length buffer.old.plain }
+    requires few { length mail.now < 2 ^ 32 }
+    requires none { batches_in buffer.old ≡ 0 }
+    ensures { buffer.new ≡ with_start_mail mail.now buffer.old }
+{
+    if has_values(mail) {
+        buffer.begin_batch(false);
+        post_values(mail, buffer);
+    }
+}
+
+/// Whether some value isn't `NOTHING`.
+fn has_values(mail: &[u64]) -> bool
+    ensures { result ≡ list_any (λ value. not (value == NOTHING)) mail.now }
+{
+    mail.iter().any(|value| *value != NOTHING)
+}
+
+/// Posts the values for the mirrors that aren't `NOTHING` in the last untagged batch.
+fn post_values(mail: &[u64], buffer: &mut Buffer)
+    requires mirrors { length mail.now ≤ length buffer.old.plain }
+    requires few { length mail.now < 2 ^ 32 }
+    ensures { buffer.new ≡ with_posts false (posts_from 0 mail.now) buffer.old }
+{
+    'mail: for mirror in 0..mail.len() {
+        if mail[mirror] != NOTHING {
+            buffer.post(false, mirror as u32, mail[mirror]);
+        }
+    }
+}
+
+/// The desks of the workers, one for each fragment, as a snapshot has them.
 pub fn desks_of(
+    alloc: Global,
+    fragments: &[Fragment],
+    start: &Snapshot,
+    order: Order,
+    counters: u32,
+) -> Result<Vec<Desk>, NoMemory>
+    requires parts { AllZip IsPartFor fragments.now start.now.parts }
+    ensures { IfOk result (λ desks. desks.items ≡ new_desks order counters fragments.now start.now.parts) }
+{
+    let mut desks = Vec::with_capacity(alloc, fragments.len())?;
+    'parts: for (part, from) in fragments.iter().zip(start.parts.iter()) {
+        desks.push(desk_of(alloc, part, from, order, counters)?)?;
+    }
+    Ok(desks)
+}
+
+/// A recording for the snapshots of a job, of which none is open. It has room where the job asks for snapshots.
+pub fn cut_of(
     alloc: Global,
     job: &Job,
     fragments: &[Fragment],
     order: Order,
-    counters: u32,
-) -> Result<Vec<Desk>, NoMemory>
-    requires job { IsJob job.now }
-    requires fragments { fragments.now ≡ fragments_of job.now }
-    ensures { IfOk result (λ desks. desks.items ≡ map (new_desk job.now order counters) fragments.now) }
+) -> Result<CutState, NoMemory>
+    requires few { length fragments.now ≤ 64 }
+    requires places { All HasFewPlaces fragments.now }
+    ensures { IfOk result (λ cut. IsEmptyCut job.now.settings.snapshot order fragments.now cut) }
 {
-    let mut desks = Vec::with_capacity(alloc, fragments.len())?;
+    let parts = if job.settings.snapshot > 0 {
+        shapes_of(alloc, fragments)?
+    } else {
+        Vec::new(alloc)
+    };
+    CutState::new(alloc, &Shape { order, parts })
+}
+
+/// A shape with the sizes of each fragment.
+fn shapes_of(alloc: Global, fragments: &[Fragment]) -> Result<Vec<ShapePart>, NoMemory>
+    requires { All HasFewPlaces fragments.now }
+    ensures shapes { IfOk result (λ parts. AllByRecursion IsPartShape parts.items) }
+    ensures sizes { IfOk result (λ parts. sizes_in parts.items ≡ map (λ part. (place_count part, length part.mirrors)) fragments.now) }
+{
+    let mut parts = Vec::with_capacity(alloc, fragments.len())?;
     'parts: for part in fragments {
-        desks.push(desk_of(alloc, job, part, order, counters)?)?;
+        parts.push(shape_of(alloc, part)?)?;
     }
-    Ok(desks)
+    Ok(parts)
+}
+
+/// A shape with the sizes of a fragment.
+fn shape_of(alloc: Global, part: &Fragment) -> Result<ShapePart, NoMemory>
+    ensures { IfOk result (λ shape. HasPlacesOf part.now shape) }
+{
+    Ok(ShapePart {
+        owned: vec![in alloc; 0; part.owned().len()]?,
+        mirrors: vec![in alloc; 0; part.mirrors().len()]?,
+    })
 }

@@ -8,4 +8,6 @@ pub struct Sight {
     pub clock: u64,
     /// The least round of a busy worker, where one is busy.
     pub least: Option<u64>,
+    /// Whether a snapshot is due.
+    pub due: bool,
 }

@@ -52,7 +52,7 @@ fn answer_table() -> [(&'static [u8], &'static [u8]); 9] {
     ]
 }
 
-fn settings_table() -> [&'static [u8]; 7] {
+fn settings_table() -> [&'static [u8]; 12] {
     [
         b"",
         b"fragments 1\ncut range\n",
@@ -61,6 +61,11 @@ fn settings_table() -> [&'static [u8]; 7] {
         b"fragments 2\ncut hash\n",
         b"fragments 64\ncut range\n",
         b"fragments 64\ncut hash\n",
+        b"fragments 3\npolicy bsp\n",
+        b"fragments 3\npolicy ap\n",
+        b"fragments 3\npolicy ssp 1\n",
+        b"fragments 3\npolicy aap 2 2\n",
+        b"fragments 3\nlanes 3\n",
     ]
 }
 

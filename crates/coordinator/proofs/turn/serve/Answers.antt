@@ -1,12 +1,12 @@
-use Rattle.std.proofs.Common.{◌≡◌, sym, ◌∙◌, ap, subst}
+use Rattle.std.proofs.Common.{◌≡◌, not, sym, ◌∙◌, ap, subst}
 use Rattle.graph_core.specs.declared.job.Job.{Job}
 use Rattle.graph_core.specs.Queries.{equations_of}
 use Rattle.graph_core.specs.Fragments.{fragments_of, fragment_of}
-use Rattle.base_machine.specs.Machine.{worker_at, is_fresh}
 use Rattle.grape_event.specs.declared.event.StopCause.TheVariants.{Memory}
 use Rattle.grape_hub.specs.declared.work.Next.{Next}
 use Rattle.grape_hub.specs.HubValues.{HubValues}
-use Rattle.grape_hub.specs.States.{workers_of}
+use Rattle.grape_hub.specs.States.{state_of}
+use Rattle.grape_hub.specs.Desks.{has_taken}
 use Rattle.grape_hub.specs.Calls.{Chooses, ReadyWhereTook}
 use Rattle.grape_hub.specs.Theorems.{IsCalm}
 use Rattle.coordinator.specs.Turns.{GoesOn}
@@ -22,7 +22,7 @@ bounds-fragments-work g c =
     let new = c.next.new.self in
     let work = c.in-Took.work in
     let chosen = subst (λ (r : Next). Chooses old 0 r new) c.in-Took.is c.next.ensures.chosen in
-    worker_has_part new 0 (is_fresh (worker_at (workers_of old) work.worker)) work c.args.fragments.now c.next.ensures.hub chosen.2
+    worker_has_part new 0 (not (has_taken work.worker (state_of old).past)) work c.args.fragments.now c.next.ensures.hub chosen.2
     (c.requires.fragments ∙ ap (λ (job : Job). fragments_of job) (sym chosen.1.0))
 
 pub evaluate-requires : goal.evaluate-requires
@@ -30,7 +30,7 @@ evaluate-requires g c =
     let old = c.args.hub.now in
     let new = c.next.new.self in
     let work = c.in-Took.work in
-    let fresh = is_fresh (worker_at (workers_of old) work.worker) in
+    let fresh = not (has_taken work.worker (state_of old).past) in
     let chosen = subst (λ (r : Next). Chooses old 0 r new) c.in-Took.is c.next.ensures.chosen in
     let ready = subst (λ (r : Next). ReadyWhereTook new r) c.in-Took.is c.next.ensures.ready in
     let parts = c.requires.fragments ∙ ap (λ (job : Job). fragments_of job) (sym chosen.1.0) in
@@ -48,7 +48,7 @@ give-requires g c =
     let old = c.args.hub.now in
     let new = c.next.new.self in
     let work = c.in-Took.work in
-    let fresh = is_fresh (worker_at (workers_of old) work.worker) in
+    let fresh = not (has_taken work.worker (state_of old).past) in
     let chosen = subst (λ (r : Next). Chooses old 0 r new) c.in-Took.is c.next.ensures.chosen in
     let ready = subst (λ (r : Next). ReadyWhereTook new r) c.in-Took.is c.next.ensures.ready in
     let parts = c.requires.fragments ∙ ap (λ (job : Job). fragments_of job) (sym chosen.1.0) in
@@ -82,9 +82,9 @@ pub returns-in-NoMemory : goal.returns-in-NoMemory
 returns-in-NoMemory g c =
     let same = subst (λ (r : Next). Chooses c.args.hub.now 0 r c.next.new.self) c.in-NoMemory.is c.next.ensures.chosen in
     let s = stopped_unchanged c.turns_are_calm.ensures.other c.args.hub.now c.next.new.self c.give_up.new.hub Memory c.requires.calm same c.next.ensures.hub c.give_up.ensures.stopped c.give_up.ensures.hub in
-    record { same = (s.job, s.counters); hub = c.give_up.ensures.hub; calm = s.calm; goes_on = subst (λ b. GoesOn b c.args.hub.now c.give_up.new.hub) (sym c.give_up.ensures.stays) s.ended }
+    record { same = (s.job, s.counters, s.start); hub = c.give_up.ensures.hub; calm = s.calm; goes_on = subst (λ b. GoesOn b c.args.hub.now c.give_up.new.hub) (sym c.give_up.ensures.stays) s.ended }
 
 pub unreachable-requires : goal.unreachable-requires
 unreachable-requires g c =
     let chosen = subst (λ (r : Next). Chooses c.args.hub.now 0 r c.next.new.self) c.in-Idle.is c.next.ensures.chosen in
-    c.one_lane_goes_on.ensures c.args.hub.now 0 c.requires.hub c.requires.calm c.requires.duty.0 c.requires.hub.job.settings.lanes.0 c.requires.duty.1 chosen.0
+    c.one_lane_goes_on.ensures c.args.hub.now 0 c.requires.hub c.requires.calm c.requires.duty.1 c.requires.duty.0 c.requires.hub.job.settings.lanes.0 c.requires.duty.2 chosen.0

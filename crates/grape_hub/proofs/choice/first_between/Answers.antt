@@ -8,7 +8,7 @@ desks-init c = record { same = refl }
 
 pub returns-then-admits : goal.returns-then-admits
 returns-then-admits c =
-    let test = admits c.args.kind c.args.sight.now c.args.probe.now in
+    let test = admits c.args.kind c.args.sight.now c.args.probe.now c.args.cut.now in
     let desks = c.args.desks.now in
     let i = c.desks.worker in
     let held : holds_at test desks i ≡ true =
@@ -17,7 +17,7 @@ returns-then-admits c =
 
 pub desks-preserved : goal.desks-preserved
 desks-preserved c =
-    let test = admits c.args.kind c.args.sight.now c.args.probe.now in
+    let test = admits c.args.kind c.args.sight.now c.args.probe.now c.args.cut.now in
     let desks = c.args.desks.now in
     let i = c.desks.worker in
     let held : holds_at test desks i ≡ false =
@@ -25,4 +25,4 @@ desks-preserved c =
     record { same = c.desks.invariant.same ∙ not_here (holds_at test desks) i c.args.to (omega arith) held }
 
 pub returns : goal.returns
-returns c = sym (c.desks.invariant.same ∙ none_left (holds_at (admits c.args.kind c.args.sight.now c.args.probe.now) c.args.desks.now) c.desks.worker c.args.to (omega arith))
+returns c = sym (c.desks.invariant.same ∙ none_left (holds_at (admits c.args.kind c.args.sight.now c.args.probe.now c.args.cut.now) c.args.desks.now) c.desks.worker c.args.to (omega arith))

@@ -6,6 +6,6 @@ use Rattle.grape_hub.proofs.choice.first_between.Given as goal
 
 abbrev pub invariant-desks : goal.invariant-desks
 invariant-desks l = record {
-  same : first_where (holds_at (admits l.kind l.sight l.probe) l.desks) (range_with_len l.fn.from (l.to - l.fn.from))
-      ≡ first_where (holds_at (admits l.kind l.sight l.probe) l.desks) (range_with_len l.worker (l.to - l.worker));
+  same : first_where (holds_at (admits l.kind l.sight l.probe l.cut) l.desks) (range_with_len l.fn.from (l.to - l.fn.from))
+      ≡ first_where (holds_at (admits l.kind l.sight l.probe l.cut) l.desks) (range_with_len l.worker (l.to - l.worker));
 }

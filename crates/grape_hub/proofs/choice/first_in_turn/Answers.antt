@@ -7,13 +7,13 @@ use Rattle.grape_hub.proofs.choice.first_in_turn.Goals as goal
 
 pub returns-in-Some : goal.returns-in-Some
 returns-in-Some c =
-    let test = holds_at (admits c.args.kind c.args.sight.now c.args.probe.now) c.args.desks.now in
+    let test = holds_at (admits c.args.kind c.args.sight.now c.args.probe.now c.args.cut.now) c.args.desks.now in
     let t = c.args.turn in
     sym (joined_some test (range_with_len t (length c.args.desks.now - t)) (numbers_below t) c.in-Some.worker (sym c.first_between.ensures ∙ c.in-Some.is))
 
 pub returns-in-None : goal.returns-in-None
 returns-in-None c =
-    let test = holds_at (admits c.args.kind c.args.sight.now c.args.probe.now) c.args.desks.now in
+    let test = holds_at (admits c.args.kind c.args.sight.now c.args.probe.now c.args.cut.now) c.args.desks.now in
     let t = c.args.turn in
     let whole : t - 0 ≡ t = omega arith in
     c.first_between-in-None.ensures

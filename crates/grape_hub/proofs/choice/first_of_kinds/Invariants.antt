@@ -4,4 +4,4 @@ use Rattle.grape_hub.specs.Kinds.{first_of_kinds, kinds}
 use Rattle.grape_hub.proofs.choice.first_of_kinds.Given as goal
 
 abbrev pub invariant-kinds : goal.invariant-kinds
-invariant-kinds l = record { same : first_of_kinds l.sight l.probe l.desks l.turn kinds ≡ first_of_kinds l.sight l.probe l.desks l.turn (drop l.kind-index kinds) }
+invariant-kinds l = record { same : first_of_kinds l.sight l.probe l.cut l.desks l.turn kinds ≡ first_of_kinds l.sight l.probe l.cut l.desks l.turn (drop l.kind-index kinds) }

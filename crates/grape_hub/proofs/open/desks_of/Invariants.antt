@@ -1,7 +1,10 @@
--- The desks so far.
-use Rattle.std.proofs.Common.{◌≡◌, map, take}
-use Rattle.grape_hub.specs.Openings.{new_desk}
+-- The fragments and the parts that are left fit, and their desks make up the whole.
+use Rattle.std.proofs.Common.{◌≡◌, ◌++◌}
+use Rattle.std.specs.List.{AllZip}
+use Rattle.grape_hub.specs.Openings.{new_desks, IsPartFor}
 use Rattle.grape_hub.proofs.open.desks_of.Given as goal
 
 abbrev pub invariant-parts : goal.invariant-parts
-invariant-parts l = l.desks.items ≡ map (new_desk l.job l.order l.counters) (take l.part-index l.fragments)
+invariant-parts l =
+    AllZip IsPartFor l.part-iterator.a.rest.now l.part-iterator.b.rest.now
+    × (l.desks.items ++ new_desks l.order l.counters l.part-iterator.a.rest.now l.part-iterator.b.rest.now ≡ new_desks l.order l.counters l.fragments l.start.parts)

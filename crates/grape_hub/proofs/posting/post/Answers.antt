@@ -18,6 +18,6 @@ returns-clause-desks c =
     (desk_is_there c.args.desks.now c.args.route c.requires.lead)
     (ap (λ b. record c.if-not-begun-worker.desk { buffer = b }) c.post.ensures
     ∙ elim c.if-not-begun-worker.branch [
-      | then-not-begun-worker w ↦ ap (with_more posts) (w.desk-is ∙ w.receive.ensures) ∙ ap (λ t. with_mail c.args.sender t posts old) (sym w.if-not-begun-worker.true)
-      | else-not-begun-worker w ↦ ap (with_more posts) w.desk-is ∙ ap (λ t. with_mail c.args.sender t posts old) (sym w.if-not-begun-worker.false)
+      | then-not-begun-worker w ↦ ap (with_more c.args.sender.tagged posts) (w.desk-is ∙ w.receive.ensures) ∙ ap (λ t. with_mail c.args.sender t posts old) (sym w.if-not-begun-worker.true)
+      | else-not-begun-worker w ↦ ap (with_more c.args.sender.tagged posts) w.desk-is ∙ ap (λ t. with_mail c.args.sender t posts old) (sym w.if-not-begun-worker.false)
     ])

@@ -4,4 +4,4 @@ use Rattle.grape_hub.proofs.Mailing.{AreMailed}
 use Rattle.grape_hub.proofs.posting.post_changes.Given as goal
 
 abbrev pub invariant-owned : goal.invariant-owned
-invariant-owned l = AreMailed l.sender [] l.fn.desks (λ k. posts_to k l.local.before l.local.values (take l.place l.routes)) l.begun l.desks
+invariant-owned l = AreMailed l.sender [] l.fn.desks l.fn.cut (λ k. posts_to k l.local.before l.local.values (take l.place l.routes)) l.begun l.desks l.cut
