@@ -3,3 +3,4 @@ pub mod Beginnings
 pub mod Turns
 pub mod Settled
 pub mod Done
+pub mod Driving

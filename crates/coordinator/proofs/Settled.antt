@@ -62,7 +62,7 @@ places_each h hub i l =
     let long = below-length (machine h).equations.order values (starts_of (machine h).equations (places piece)) (formed h hub i l).values in
     long ∙ (length-map (places piece) (machine h).equations.start ∙ ap (λ (q : Piece). length (places q)) (piece_is h i (omega (arith, l, n))) ∙ length-append (fragment_of h.job i).owned (fragment_of h.job i).mirrors)
 
-locals_fit : (h : HubValues) (parts : List FragmentLists) (locals : List LocalValues) → IsHub h → parts ≡ fragments_of h.job → HaveValues h locals → FitParts parts locals
+pub locals_fit : (h : HubValues) (parts : List FragmentLists) (locals : List LocalValues) → IsHub h → parts ≡ fragments_of h.job → HaveValues h locals → FitParts parts locals
 locals_fit h parts locals hub same have =
     let n = workers_are h hub in
     let long = ap (λ (ps : List FragmentLists). length ps) same ∙ length-map-range_with_len (fragment_of h.job) 0 h.job.settings.fragments in

@@ -139,7 +139,7 @@ fn ended<P: Pie, Q: Pacer>(alloc: Global, job: &Job, fragments: &[Fragment], hub
 }
 
 /// The event that ended a journal.
-fn last_event(journal: &Journal) -> Event
+pub(crate) fn last_event(journal: &Journal) -> Event
     requires { has_ended (reverse journal.now.events) ≡ true }
     ensures { LastEvent journal.now.events result }
 {

@@ -17,6 +17,8 @@ mod ran;
 mod shape;
 #[cfg(test)]
 mod shape_tests;
+#[cfg(test)]
+mod snapshots;
 mod story;
 #[cfg(test)]
 mod tests;

@@ -102,7 +102,8 @@ fn answer_of<Q: Pacer>(alloc: Global, job: &Job, pacers: Vec<Q>) -> Result<Answe
     }
 }
 
-fn answer_calmly(alloc: Global, job: &Job) -> Result<Answer, TextFault>
+/// The answer of a job, run without pacers.
+pub(crate) fn answer_calmly(alloc: Global, job: &Job) -> Result<Answer, TextFault>
     requires job { IsJob job.now }
     requires built { IsBuilt job.now }
 {
@@ -111,7 +112,7 @@ fn answer_calmly(alloc: Global, job: &Job) -> Result<Answer, TextFault>
 }
 
 /// Stops where an answer has other rows.
-fn check_rows(rt: &impl Abort, answer: &Answer, want: &Answer) {
+pub(crate) fn check_rows(rt: &impl Abort, answer: &Answer, want: &Answer) {
     assert_eq!(rt; answer.rows.as_slice(), want.rows.as_slice());
 }
 

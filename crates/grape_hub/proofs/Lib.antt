@@ -39,3 +39,4 @@ pub mod Snapshots
 pub mod Without
 pub mod Seals
 pub mod Sealings
+pub mod Staying

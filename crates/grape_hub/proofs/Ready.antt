@@ -143,7 +143,7 @@ equations_hold h hub i l took calm =
 -- ---- after a Take
 
 -- a hub after one more event, with so much room
-abbrev with_event : HubValues → Event → ℕ → HubValues
+abbrev pub with_event : HubValues → Event → ℕ → HubValues
 with_event old e spare = record { job = old.job; counters = old.counters; start = old.start; journal = record { events = old.journal.events ++ e ∷ []; spare = spare } }
 
 -- a Take leaves its worker's values

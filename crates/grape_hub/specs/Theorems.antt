@@ -123,3 +123,15 @@ abbrev pub NothingIsSealed : Type 0
 NothingIsSealed =
     (h : HubValues) → IsHub h → h.job.settings.snapshot ≡ 0 →
     (sealed_epoch (state_of h).past ≡ None) × ((epoch : ℕ) → duty_choice (machine h) (state_of h) ≡ Some (Seal epoch) → ⊥)
+
+-- Another event than its worker's Give leaves a Work as it is.
+abbrev pub WorksStay : Type 0
+WorksStay =
+    (old new : HubValues) (lane : ℕ) (fresh : Bool) (work : Work) (e : Event) → IsWork old lane fresh work → IsReady old work → Appended old e new → IsHub new → (e ≡ Give work.worker → ⊥) →
+    IsWork new lane fresh work × IsReady new work
+
+-- A lane without a Work out is free after every event but a Take of its own, and after the Give of its Work.
+abbrev pub LanesStay : Type 0
+LanesStay =
+    ((old new : HubValues) (lane : ℕ) (e : Event) → has_work_out (state_of old) lane ≡ false → ((i : ℕ) → e ≡ Take i lane → ⊥) → Appended old e new → has_work_out (state_of new) lane ≡ false)
+    × ((old new : HubValues) (lane : ℕ) (fresh : Bool) (work : Work) → IsHub old → IsWork old lane fresh work → Appended old (Give work.worker) new → has_work_out (state_of new) lane ≡ false)

@@ -1,6 +1,6 @@
 ghost use Rattle.graph_core.specs.declared.job.Job.{Job};
 ghost use Rattle.graph_core.specs.Graphs.{IsJob};
-ghost use Rattle.grape_hub.specs.Theorems.{NothingIsSealed, WorksMayBeEvaluated, EvaluatedMayBeGiven, CalmIsFree, CalmAtBeginning, CalmAfterTurn, CalmAfterOther, IdleIsQuiet, OneLaneGoesOn, EndIsQuiet, HubsRun, IsConfluent, QuietIsTheAnswer, JournalIsBounded, CutsAreConsistent, SealedMayBeResumed, FreshIsAStart};
+ghost use Rattle.grape_hub.specs.Theorems.{NothingIsSealed, WorksMayBeEvaluated, EvaluatedMayBeGiven, CalmIsFree, CalmAtBeginning, CalmAfterTurn, CalmAfterOther, IdleIsQuiet, OneLaneGoesOn, EndIsQuiet, HubsRun, IsConfluent, QuietIsTheAnswer, JournalIsBounded, CutsAreConsistent, SealedMayBeResumed, FreshIsAStart, WorksStay, LanesStay};
 
 use pie_core::Pie;
 
@@ -8,6 +8,12 @@ use pie_core::Pie;
 pub fn works_go_round()
     ensures evaluated { WorksMayBeEvaluated }
     ensures given { EvaluatedMayBeGiven }
+{}
+
+/// An event leaves the Works that other lanes have out, and lanes that are free; the Give of its Work frees a lane.
+pub fn works_stay()
+    ensures work { WorksStay }
+    ensures lane { LanesStay }
 {}
 
 /// Where nobody is out every lane is free, and one lane's turns leave it so.

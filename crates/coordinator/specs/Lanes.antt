@@ -1,0 +1,33 @@
+-- What the lanes of a hub have out while it is driven.
+use Rattle.std.specs.Prelude.{◌≡◌, ℕ, Bool, false, Option, Some, None}
+use Rattle.token_cut.specs.Parts.{SnapshotParts}
+use Rattle.base_machine.specs.Fitness.{IsInForm}
+use Rattle.legal_journal.specs.Legal.{has_work_out}
+use Rattle.grape_hub.specs.declared.work.Work.{Work}
+use Rattle.grape_hub.specs.HubValues.{HubValues}
+use Rattle.grape_hub.specs.States.{machine, state_of, sealed_epoch, IsHub}
+use Rattle.grape_hub.specs.Calls.{IsWork, IsReady}
+
+-- a Work that may be evaluated, or nothing
+abbrev pub HasOut : HubValues → ℕ → Option Work → Type 0
+HasOut h lane None = has_work_out (state_of h) lane ≡ false
+HasOut h lane (Some work) = (fresh : Bool) × IsWork h lane fresh work × IsReady h work
+
+-- the lane has out what it had
+abbrev pub LaneKeeps : ℕ → HubValues → HubValues → Type 0
+LaneKeeps lane old new = (out : Option Work) → HasOut old lane out → HasOut new lane out
+
+-- the same job, counters and start, and nothing is sealed and not kept
+pub record GoesAlong (old new : HubValues) : Type 0 where
+  pub job : new.job ≡ old.job
+  pub counters : new.counters ≡ old.counters
+  pub start : new.start ≡ old.start
+  pub sealed : sealed_epoch (state_of old).past ≡ None → sealed_epoch (state_of new).past ≡ None
+
+-- A hub that two lanes drive: what they have out, nothing that is sealed and not kept, and a snapshot in the form.
+pub record IsDriven (h : HubValues) (one two : Option Work) (snapshot : SnapshotParts) : Type 0 where
+  pub hub : IsHub h
+  pub first : HasOut h 0 one
+  pub second : HasOut h 1 two
+  pub sealed : sealed_epoch (state_of h).past ≡ None
+  pub into : IsInForm (machine h) snapshot
