@@ -3,12 +3,12 @@ use Rattle.std.specs.Prelude.{ℕ, ◌+◌, ◌-◌, ◌^◌, max, Bool, true, f
 use Rattle.std.specs.List.{list_all, list_any}
 use Rattle.std.specs.Option.{is_some}
 use Rattle.value_order.specs.declared.order.Order.{Order}
-use Rattle.value_order.specs.Order.{meet_all}
 use Rattle.graph_core.specs.Fragments.{numbers_below, piece_at}
 use Rattle.grape_event.specs.declared.event.Event.{Event}
 use Rattle.grape_event.specs.declared.event.Event.TheVariants.{Take, Give, Stretch, Hold, Flag, Ask, Ack, Nack, Begin, Mark, Seal, Kept, End, Stop}
 use Rattle.token_cut.specs.Parts.{PartValues, SnapshotParts}
-use Rattle.token_cut.specs.declared.phase.Phase.TheVariants.{Rest as RestPhase}
+pub use Rattle.token_cut.specs.Parts.{no_part}
+use Rattle.token_cut.specs.Late.{mail_lowered}
 use Rattle.base_machine.specs.Machine.{System, BaseState, Post, Batch, BaseTake, BaseGive, worker_at, is_fresh, is_running, rests, batch_waits, batches_waiting, is_empty, sent_to, base_after, base_state_of, phase_of, values_for, met_posts, posts_in}
 use Rattle.legal_journal.specs.Past
 use Rattle.legal_journal.specs.Delays.{is_fresh_enough, delay_is_over, stretch_turns}
@@ -35,10 +35,6 @@ start_state s =
 
 abbrev pub worker_count : State → ℕ
 worker_count s = length s.workers
-
--- stands for a part past the last
-abbrev pub no_part : PartValues
-no_part = record { phase = RestPhase; values = []; mail = [] }
 
 -- ---- what is admitted
 
@@ -189,8 +185,7 @@ arrivals_after sys s _ = s.arrivals
 
 -- the mail of a recorded part, lowered by a late batch
 abbrev pub mail_with : Order → ℕ → List Post → List ℕ → List ℕ
-mail_with o m posts [] = []
-mail_with o m posts (x ∷ xs) = meet_all o x (values_for m posts) ∷ mail_with o (m + 1) posts xs
+mail_with o m posts mail = mail_lowered o m (λ k. values_for k posts) mail
 
 -- An untagged batch to a worker that is marked in an open recording is late.
 abbrev pub is_late : State → ℕ → ℕ → Bool
