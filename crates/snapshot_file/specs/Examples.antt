@@ -1,25 +1,8 @@
--- A shape and some snapshots of it, for tests and worked rows.
+-- A shape and snapshots of it, for tests and worked rows.
 use Rattle.std.specs.Prelude.{[], ◌∷◌}
-use Rattle.value_order.specs.declared.TheConstants.{NOTHING}
-use Rattle.value_order.specs.declared.order.Order.TheVariants.{Least}
 use Rattle.token_cut.specs.declared.phase.Phase.TheVariants.{Fresh, Rest}
 use Rattle.token_cut.specs.Parts.{SnapshotParts}
-use Rattle.token_cut.specs.Shapes.{Starts}
-
--- six vertices in three parts, each with its own number as start
-abbrev pub six_vertices : Starts
-six_vertices = record {
-  order = Least;
-  parts = record { owned = 1 ∷ 2 ∷ []; mirrors = 3 ∷ 6 ∷ [] } ∷ record { owned = 3 ∷ 4 ∷ []; mirrors = 2 ∷ [] } ∷ record { owned = 5 ∷ 6 ∷ []; mirrors = 1 ∷ [] } ∷ [];
-}
-
-abbrev pub sealed : SnapshotParts
-sealed = record {
-  epoch = 1;
-  parts = record { phase = Fresh; values = 1 ∷ 2 ∷ 3 ∷ 6 ∷ []; mail = 2 ∷ 1 ∷ [] }
-      ∷ record { phase = Rest; values = 2 ∷ 4 ∷ 2 ∷ []; mail = NOTHING ∷ [] }
-      ∷ record { phase = Rest; values = 1 ∷ 1 ∷ 1 ∷ []; mail = NOTHING ∷ [] } ∷ [];
-}
+pub use Rattle.token_cut.specs.Worked.{six_vertices, sealed}
 
 -- a number in each field that stands nowhere else
 abbrev pub marked : SnapshotParts
