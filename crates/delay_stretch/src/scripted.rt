@@ -21,6 +21,7 @@ impl Model for Scripted {
 }
 
 impl Scripted {
+    /// A pacer that has all these answers left.
     pub fn new(answers: Vec<u32>) -> Scripted
         ensures { result ≡ answers.items }
     {

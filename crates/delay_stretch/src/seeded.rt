@@ -23,6 +23,7 @@ impl Model for Seeded {
 }
 
 impl Seeded {
+    /// A pacer whose words are those from this number on.
     pub fn new(number: u64) -> Seeded
         ensures { result ≡ number }
     {

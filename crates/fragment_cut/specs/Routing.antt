@@ -25,6 +25,6 @@ reading_to route = record { place = route.fragment; weight = route.mirror }
 abbrev pub routes_table : Job → List (List Reading)
 routes_table job = map (λ v. map reading_to (routes_of job v)) (numbers_below (count_of job.graph))
 
--- the routes of these vertices
+-- the routes of one vertex
 abbrev pub routes_in : List (List Reading) → ℕ → List Route
 routes_in rows v = map route_of (slice_index_or rows v [])

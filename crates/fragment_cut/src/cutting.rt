@@ -71,8 +71,8 @@ fn joined(
 /// at one place, and its readings there are what its equation reads.
 ///
 /// It takes the time of three sorts of what is read along the edges, and two passes over the vertices a
-/// fragment. No memory is taken a vertex or an edge: tables are dense. Where memory runs out, nothing is
-/// left.
+/// fragment. Tables are dense, so that no vertex or edge has memory of its own. Where memory runs out,
+/// nothing is left.
 pub fn fragment(alloc: Global, job: &Job) -> Result<Vec<Fragment>, NoMemory>
     requires { IsJob job.now }
     ensures made { IfOk result (λ fragments. fragments.items ≡ fragments_of job.now) }

@@ -102,7 +102,8 @@ fn owners_by_hash(rt: HostRuntime) {
     }
 }
 
-/// Stops where a fragment has other vertices, or the readings, readers and routes of a place are others.
+// Each of these stops where a fragment has others: vertices, or readings, readers or routes of a place.
+
 fn check_vertices(rt: &impl Abort, part: &Fragment, owned: &[u32], mirrors: &[u32]) {
     assert_eq!(rt; part.owned(), owned);
     assert_eq!(rt; part.mirrors(), mirrors);

@@ -39,7 +39,6 @@ fn word_length(text: &[u8]) -> usize
 }
 
 /// The first word of a text, and what stands behind it; or `None` where there are no words.
-
 pub fn split_word(text: &[u8]) -> Option<(&[u8], &[u8])>
     ensures { MatchOption result (words_in text.now ≡ []) (λ parts. words_in text.now ≡ parts.0.now ∷ words_in parts.1.now) }
 {
@@ -91,7 +90,6 @@ pub fn only_number(text: &[u8], low: u32, high: u32) -> Result<u32, Why>
 }
 
 /// The text without its last byte, if that is this byte.
-
 fn without_last(text: &[u8], byte: u8) -> &[u8]
     ensures { result.now ≡ without_last byte text.now }
 {

@@ -99,6 +99,7 @@ fn takes_all_64_nodes(rt: HostRuntime) -> Result<(), Fail> {
 
 #[test]
 fn agrees_with_plain_evaluation(rt: HostRuntime) -> Result<(), Fail> {
+    let alloc = rt.alloc();
     let nodes = [node(0, 1), node(1, 2), node(2, 3), node(3, 1), node(4, 2)];
     let few = [link(0, 1), link(1, 0), link(3, 4), link(4, 3)];
     let many = [
@@ -113,38 +114,14 @@ fn agrees_with_plain_evaluation(rt: HostRuntime) -> Result<(), Fail> {
     let asks_many = (nodes.as_slice(), many.as_slice());
     for number in 1..13 {
         for fragments in 1..4 {
-            let by_range = generated(rt.alloc(), number)?;
-            compare_all(
-                &rt,
-                rt.alloc(),
-                by_range,
-                asks_few,
-                fragments,
-                Cut::Range,
-                22,
-            )?;
-            let by_hash = generated(rt.alloc(), number)?;
-            compare_all(
-                &rt,
-                rt.alloc(),
-                by_hash,
-                asks_many,
-                fragments,
-                Cut::Hash,
-                25,
-            )?;
-            let by_range = generated(rt.alloc(), number)?;
-            compare_all(
-                &rt,
-                rt.alloc(),
-                by_range,
-                asks_many,
-                fragments,
-                Cut::Range,
-                7,
-            )?;
-            let by_hash = generated(rt.alloc(), number)?;
-            compare_all(&rt, rt.alloc(), by_hash, asks_few, fragments, Cut::Hash, 9)?;
+            let by_range = generated(alloc, number)?;
+            compare_all(&rt, alloc, by_range, asks_few, fragments, Cut::Range, 22)?;
+            let by_hash = generated(alloc, number)?;
+            compare_all(&rt, alloc, by_hash, asks_many, fragments, Cut::Hash, 25)?;
+            let by_range = generated(alloc, number)?;
+            compare_all(&rt, alloc, by_range, asks_many, fragments, Cut::Range, 7)?;
+            let by_hash = generated(alloc, number)?;
+            compare_all(&rt, alloc, by_hash, asks_few, fragments, Cut::Hash, 9)?;
         }
     }
     Ok(())

@@ -3,6 +3,6 @@
 pub enum Phase {
     /// It has taken no work yet.
     Fresh,
-    /// It waits for mail.
+    /// It has taken work, and has none under way.
     Rest,
 }
