@@ -1,40 +1,39 @@
 -- A hub that two lanes drive.
-use Rattle.std.proofs.Common.{◌≡◌, ◌≢◌, ℕ, zero, suc, ◌<◌, inl, inr, Bool, true, false, not, ◌&&◌, refl, sym, ◌∙◌, ap, subst, arith, List, [], ◌∷◌, length, map, reverse, Option, Some, None}
+use Rattle.std.proofs.Common.{◌≡◌, ◌≢◌, ℕ, inl, inr, Bool, true, false, not, ◌&&◌, refl, sym, ◌∙◌, ap, subst, arith, List, [], ◌∷◌, length, map, reverse, Option, Some, None}
 use Rattle.std.specs.List.{AllZip, Contains}
-use Rattle.std.proofs.lemmas.Bool.{and_parts, cases_Bool, false≢true, MatchBool-at_false}
+use Rattle.std.proofs.lemmas.Bool.{cases_Bool, eq-eqb, false≢true, MatchBool-at_false}
+use Rattle.std.proofs.lemmas.List.FromFn.{length-range_with_len, get_or-range_with_len}
+use Rattle.std.proofs.lemmas.List.Folds.{list_any_at}
 use Rattle.std.proofs.lemmas.List.{reverse-append, length-map}
 use Rattle.std.proofs.lemmas.List.Elements.{Contains-push}
 use Rattle.std.proofs.lemmas.Option.{same_Some}
 use Rattle.graph_core.specs.declared.job.Job.{Job}
-use Rattle.graph_core.specs.Fragments.{Piece, places}
+use Rattle.graph_core.specs.Fragments.{Piece, numbers_below, places}
 use Rattle.grape_event.specs.declared.event.Event.{Event}
 use Rattle.grape_event.specs.declared.event.Event.TheVariants.{Take, Give, Stretch, Hold, Flag, Ask, Ack, Nack, Begin, Mark, Seal, Kept, End, Stop}
 use Rattle.grape_event.specs.Events.{is_take}
 use Rattle.pie_core.specs.Solutions.{starts_of}
 use Rattle.token_cut.specs.Parts.{PartValues, SnapshotParts}
 use Rattle.token_cut.specs.Shapes.{size_of, sizes_of}
-use Rattle.base_machine.specs.Machine.{System, system_of, BaseState, worker_at, is_running, rests, batch_waits}
-use Rattle.base_machine.specs.Fitness.{is_quiet, IsInForm, IsPartInForm}
+use Rattle.base_machine.specs.Machine.{System, system_of}
+use Rattle.base_machine.specs.Fitness.{IsInForm, IsPartInForm}
 use Rattle.base_machine.proofs.Giving.{below-length}
 use Rattle.legal_journal.specs.Past.{has_ended, lane_of}
 use Rattle.legal_journal.specs.Choices.{is_of_lane, is_duty}
-use Rattle.legal_journal.specs.Legal.{State, has_work_out}
-use Rattle.legal_journal.proofs.Probes.{not_running}
+use Rattle.legal_journal.specs.Legal.{State, worker_count, is_lane, is_out_with, has_work_out}
 use Rattle.legal_journal.proofs.Choosing.{duties_are_exact, lane_choices_are_exact}
 use Rattle.grape_hub.specs.declared.work.Work.{Work}
 use Rattle.grape_hub.specs.HubValues.{HubValues}
-use Rattle.grape_hub.specs.States.{machine, state_of, workers_of, sealed_epoch, IsHub, IsOut}
+use Rattle.grape_hub.specs.States.{machine, state_of, sealed_epoch, IsHub, IsOut}
+use Rattle.grape_hub.specs.LanedHub.{LanedHub, IsLanedHub, is_out_at}
 use Rattle.grape_hub.specs.declared.work.Duty.TheVariants as duty
 use Rattle.grape_hub.specs.declared.work.Next.TheVariants.{Took, Did}
 use Rattle.grape_hub.specs.Desks.{has_taken}
-use Rattle.grape_hub.specs.Calls.{Appended, AppendedUnlessEnded, Unchanged, Begins, Chooses, ChoosesDuty, WritesSealed, IsReady, HasSizesOf, is_seal}
-use Rattle.grape_hub.specs.Theorems.{IsCalm}
+use Rattle.grape_hub.specs.Calls.{Appended, AppendedUnlessEnded, Unchanged, Begins, Chooses, ChoosesDuty, WritesSealed, IsWork, IsReady, HasSizesOf, is_seal}
 use Rattle.grape_hub.proofs.Calm.{calm_is_free, calm_at_beginning}
-use Rattle.grape_hub.proofs.Idling.{end_is_quiet}
 use Rattle.grape_hub.proofs.Cuts.{sealed_may_be_resumed}
 use Rattle.grape_hub.proofs.Hubs.{state_grown, zipped_length, past_of}
 use Rattle.grape_hub.proofs.Staying.{works_stay, lanes_stay}
-use Rattle.coordinator.specs.Runs.{EndsBy, LastEvent}
 use Rattle.coordinator.specs.Lanes.{HasOut, LaneKeeps, GoesAlong, IsDriven}
 
 -- ---- events that no lane's Work and no seal hears of
@@ -309,40 +308,50 @@ lane_gave old new lane work worker hub out going same after hub-2 =
 
 -- ---- both lanes
 
-pub driven_on : (old new : HubValues) (first second : Option Work) (before after : SnapshotParts) → IsDriven old first second before → GoesAlong old new → IsHub new → ((lane : ℕ) → LaneKeeps lane old new) → IsInForm (machine new) after →
-    IsDriven new first second after
+pub driven_on : (old new : LanedHub) (first second : Option Work) (before after : SnapshotParts) → IsDriven old first second before → GoesAlong old.hub new.hub → IsLanedHub new → ((lane : ℕ) → LaneKeeps lane old.hub new.hub) →
+    IsInForm (machine new.hub) after → IsDriven new first second after
 driven_on old new first second before after d along hub lanes form = record { hub = hub; first = lanes 0 first d.first; second = lanes 1 second d.second; sealed = along.sealed d.sealed; into = form }
 
-pub driven_first : (old new : HubValues) (first second out : Option Work) (into : SnapshotParts) → IsDriven old first second into → GoesAlong old new → IsHub new → HasOut new 0 out → ((other : ℕ) → other ≢ 0 → LaneKeeps other old new) → IsDriven new out second into
+pub driven_first : (old new : LanedHub) (first second out : Option Work) (into : SnapshotParts) → IsDriven old first second into → GoesAlong old.hub new.hub → IsLanedHub new → HasOut new.hub 0 out →
+    ((other : ℕ) → other ≢ 0 → LaneKeeps other old.hub new.hub) → IsDriven new out second into
 driven_first old new first second out into d along hub has lanes =
-    record { hub = hub; first = has; second = lanes 1 (λ e. omega (arith, e)) second d.second; sealed = along.sealed d.sealed; into = form_stays old new into along.job d.into }
+    record { hub = hub; first = has; second = lanes 1 (λ e. omega (arith, e)) second d.second; sealed = along.sealed d.sealed; into = form_stays old.hub new.hub into along.job d.into }
 
-pub driven_second : (old new : HubValues) (first second out : Option Work) (into : SnapshotParts) → IsDriven old first second into → GoesAlong old new → IsHub new → HasOut new 1 out → ((other : ℕ) → other ≢ 1 → LaneKeeps other old new) → IsDriven new first out into
+pub driven_second : (old new : LanedHub) (first second out : Option Work) (into : SnapshotParts) → IsDriven old first second into → GoesAlong old.hub new.hub → IsLanedHub new → HasOut new.hub 1 out →
+    ((other : ℕ) → other ≢ 1 → LaneKeeps other old.hub new.hub) → IsDriven new first out into
 driven_second old new first second out into d along hub has lanes =
-    record { hub = hub; first = lanes 0 (λ e. omega (arith, e)) first d.first; second = has; sealed = along.sealed d.sealed; into = form_stays old new into along.job d.into }
+    record { hub = hub; first = lanes 0 (λ e. omega (arith, e)) first d.first; second = has; sealed = along.sealed d.sealed; into = form_stays old.hub new.hub into along.job d.into }
 
--- ---- the beginning and the end
+-- ---- the hub's records
+
+-- a lane that is free by the journal is free by its record
+pub free_by_record : (x : LanedHub) (lane : ℕ) → IsLanedHub x → has_work_out (state_of x.hub) lane ≡ false → is_out_at x lane ≡ false
+free_by_record x lane stands free =
+    elim (cases_Bool (is_out_at x lane)) [ inl out ↦ absurd (false≢true (sym free ∙ (stands.1.out lane out).0)) | inr f ↦ f ]
+
+-- before the journal's end a lane has out by its record what it has out by the journal
+pub out_by_record : (x : LanedHub) (lane : ℕ) (fresh : Bool) (work : Work) → IsLanedHub x → has_ended (reverse x.hub.journal.events) ≡ false → IsWork x.hub lane fresh work → is_out_at x lane ≡ true
+out_by_record x lane fresh work stands going w =
+    let s = state_of x.hub in
+    let i = work.worker in
+    let out = w.out in
+    let mine : is_out_with s lane i ≡ true =
+    ap (λ b. b && is_lane lane (lane_of i s.past)) out.running ∙ (ap (λ (o : Option ℕ). is_lane lane o) out.by_lane ∙ eq-eqb lane lane refl) in
+    let long = length-range_with_len 0 (worker_count s) in
+    let here = get_or-range_with_len 0 (worker_count s) i 0 out.in_range in
+    stands.1.all going lane (list_any_at (is_out_with s lane) (numbers_below (worker_count s)) i 0 (omega (arith, out.in_range, long)) (subst (λ n. is_out_with s lane n ≡ true) (sym (here ∙ omega arith)) mine))
+
+-- ---- the beginning
 
 -- at its start a hub is driven by nobody, and a copy of the start is in the form
-pub driven_begins : (h : HubValues) (job : Job) (counters : ℕ) (start into : SnapshotParts) → IsHub h → Begins job counters start h → into ≡ start → IsInForm (system_of job) start → IsDriven h None None into
-driven_begins h job counters start into hub begins same form =
-    let calm = calm_at_beginning h hub begins.2 in
+pub driven_begins : (x : LanedHub) (job : Job) (counters : ℕ) (start into : SnapshotParts) → IsLanedHub x → Begins job counters start x.hub → into ≡ start → IsInForm (system_of job) start → IsDriven x None None into
+driven_begins x job counters start into stands begins same form =
+    let h = x.hub in
+    let calm = calm_at_beginning h stands.0 begins.2 in
     record {
-      hub = hub;
+      hub = stands;
       first = calm_is_free h 0 calm;
       second = calm_is_free h 1 calm;
       sealed = ap (λ (past : List Event). sealed_epoch past) (past_of h ∙ ap (λ (es : List Event). reverse es) begins.2);
       into = subst (λ (q : Job). IsInForm (system_of q) into) (sym begins.0) (subst (λ (s : SnapshotParts). IsInForm (system_of job) s) (sym same) form);
     }
-
-rests_each : (ws : BaseState) → is_quiet ws ≡ true → (i : ℕ) → i < length ws → is_running (worker_at ws i) ≡ false
-rests_each [] h i l = absurd (omega (arith, l))
-rests_each (w ∷ ws) h zero l =
-    elim (cases_Bool (is_running w)) [ inl r ↦ absurd (not_running w (and_parts _ _ (and_parts (rests w && not (batch_waits w)) _ h).0).0 r) | inr f ↦ f ]
-rests_each (w ∷ ws) h (suc i) l = rests_each ws (and_parts (rests w && not (batch_waits w)) _ h).1 i (omega (arith, l))
-
--- where the journal ends by End nobody is out
-pub end_is_calm : (h : HubValues) (e : Event) → IsHub h → LastEvent h.journal.events e → e ≡ End → IsCalm h
-end_is_calm h e hub last is =
-    let ends = subst (λ (x : Event). EndsBy x h.journal.events) is last.0 in
-    rests_each (workers_of h) (end_is_quiet h ends.0 hub ends.1)

@@ -4,3 +4,4 @@ pub mod Turns
 pub mod Settled
 pub mod Done
 pub mod Driving
+pub mod Seating

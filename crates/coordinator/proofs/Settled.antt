@@ -1,8 +1,8 @@
 -- What a run tells of a hub whose journal has ended.
-use Rattle.std.proofs.Common.{◌≡◌, ℕ, zero, suc, ◌*◌, ◌<◌, refl, sym, ◌∙◌, ap, subst, arith, List, [], ◌∷◌, ◌++◌, length, map, reverse, slice_index_or, slice_get, Some, true, ◌-◌}
+use Rattle.std.proofs.Common.{◌≡◌, ℕ, zero, suc, ◌*◌, ◌<◌, inl, inr, false, not, ◌&&◌, refl, sym, ◌∙◌, ap, subst, arith, List, [], ◌∷◌, ◌++◌, length, map, reverse, slice_index_or, slice_get, Some, true, ◌-◌}
 use mathlib.Core.List.{reverse-cons}
 use Rattle.std.specs.List.{AllZip}
-use Rattle.std.proofs.lemmas.Bool.{false≢true}
+use Rattle.std.proofs.lemmas.Bool.{false≢true, and_parts, cases_Bool}
 use Rattle.std.proofs.lemmas.List.{length-append, length-map, reverse-reverse}
 use Rattle.std.proofs.lemmas.Option.{same_Some}
 use Rattle.std.proofs.lemmas.List.FromFn.{length-map-range_with_len, get_or-map-range_with_len}
@@ -16,13 +16,17 @@ use Rattle.grape_event.specs.declared.event.StopCause.{StopCause}
 use Rattle.grape_event.specs.declared.event.Event.TheVariants.{Take, Give, Stretch, Hold, Flag, Ask, Ack, Nack, Begin, Mark, Seal, Kept, End, Stop}
 use Rattle.pie_core.specs.Locals.{LocalValues}
 use Rattle.token_cut.specs.Parts.{SnapshotParts}
-use Rattle.base_machine.specs.Machine.{BaseState, Worker, worker_at, no_worker, system_of, fresh_snapshot}
+use Rattle.base_machine.specs.Machine.{BaseState, Worker, worker_at, is_running, rests, batch_waits, no_worker, system_of, fresh_snapshot}
+use Rattle.base_machine.specs.Fitness.{is_quiet}
 use Rattle.legal_journal.specs.Past.{has_ended}
+use Rattle.legal_journal.proofs.Probes.{not_running}
 use Rattle.legal_journal.specs.Legal.{IsLegal, state_at_end}
 use Rattle.answer_text.specs.Assembled.{FitParts, values_at}
 use Rattle.grape_hub.specs.HubValues.{HubValues}
 use Rattle.grape_hub.specs.States.{machine, workers_of, IsHub}
 use Rattle.grape_hub.specs.Calls.{HaveValues, HaveSizes}
+use Rattle.grape_hub.specs.Theorems.{IsCalm}
+use Rattle.grape_hub.proofs.Idling.{end_is_quiet}
 use Rattle.pie_core.specs.Solutions.{starts_of}
 use Rattle.base_machine.proofs.Giving.{below-length}
 use Rattle.grape_hub.proofs.Formed.{formed}
@@ -62,7 +66,7 @@ places_each h hub i l =
     let long = below-length (machine h).equations.order values (starts_of (machine h).equations (places piece)) (formed h hub i l).values in
     long ∙ (length-map (places piece) (machine h).equations.start ∙ ap (λ (q : Piece). length (places q)) (piece_is h i (omega (arith, l, n))) ∙ length-append (fragment_of h.job i).owned (fragment_of h.job i).mirrors)
 
-pub locals_fit : (h : HubValues) (parts : List FragmentLists) (locals : List LocalValues) → IsHub h → parts ≡ fragments_of h.job → HaveValues h locals → FitParts parts locals
+pub locals_fit : (h : HubValues) (parts : List FragmentLists) (locals : List LocalValues) → IsHub h → parts ≡ fragments_of h.job → AllZip (λ (local : LocalValues) (w : Worker). local.values ≡ w.values) locals (workers_of h) → FitParts parts locals
 locals_fit h parts locals hub same have =
     let n = workers_are h hub in
     let long = ap (λ (ps : List FragmentLists). length ps) same ∙ length-map-range_with_len (fragment_of h.job) 0 h.job.settings.fragments in
@@ -79,6 +83,29 @@ owned_each job counters [] (l ∷ ls) a = absurd a
 owned_each job counters (i ∷ is) [] a = absurd a
 owned_each job counters (i ∷ is) (l ∷ ls) a = (a.0.0, owned_each job counters is ls a.1)
 
+-- ---- nobody is out
+
+rests_each : (ws : BaseState) → is_quiet ws ≡ true → (i : ℕ) → i < length ws → is_running (worker_at ws i) ≡ false
+rests_each [] h i l = absurd (omega (arith, l))
+rests_each (w ∷ ws) h zero l =
+    elim (cases_Bool (is_running w)) [ inl r ↦ absurd (not_running w (and_parts _ _ (and_parts (rests w && not (batch_waits w)) _ h).0).0 r) | inr f ↦ f ]
+rests_each (w ∷ ws) h (suc i) l = rests_each ws (and_parts (rests w && not (batch_waits w)) _ h).1 i (omega (arith, l))
+
+-- where the journal ends by End nobody is out
+pub ends_calm : (h : HubValues) → IsHub h → EndsBy End h.journal.events → IsCalm h
+ends_calm h hub ends = rests_each (workers_of h) (end_is_quiet h ends.0 hub ends.1)
+
+all_values : (ws : BaseState) (locals : List LocalValues) → ((i : ℕ) → i < length ws → is_running (worker_at ws i) ≡ false) → AllZip (λ (local : LocalValues) (w : Worker). is_running w ≡ false → local.values ≡ w.values) locals ws →
+    AllZip (λ (local : LocalValues) (w : Worker). local.values ≡ w.values) locals ws
+all_values [] [] calm a = tt
+all_values [] (l ∷ ls) calm a = absurd a
+all_values (w ∷ ws) [] calm a = absurd a
+all_values (w ∷ ws) (l ∷ ls) calm a = (a.0 (calm 0 (omega arith)), all_values ws ls (λ i k. calm (suc i) (omega (arith, k))) a.1)
+
+-- where nobody is out each Local has its worker's values
+pub values_of : (h : HubValues) (locals : List LocalValues) → IsCalm h → HaveValues h locals → AllZip (λ (local : LocalValues) (w : Worker). local.values ≡ w.values) locals (workers_of h)
+values_of h locals calm have = all_values (workers_of h) locals calm have
+
 -- ---- the story
 
 -- a story has a hub's start and journal
@@ -94,7 +121,7 @@ story_of h job story hub same fresh tells =
     (subst (λ (j : JournalList). IsLegal (machine h) h.start j.events) (sym tells.journal) hub.legal) in
     record { start = tells.start ∙ fresh; legal = subst (λ (j : Job). IsLegal (system_of j) story.start story.journal.events) same legal; kept = tells.kept }
 
-pub locals_of : (h : HubValues) (job : Job) (parts : List FragmentLists) (story : Story) (locals : List LocalValues) → IsHub h → h.job ≡ job → parts ≡ fragments_of job → Tells h story → HaveValues h locals → HaveSizes h locals →
+pub locals_of : (h : HubValues) (job : Job) (parts : List FragmentLists) (story : Story) (locals : List LocalValues) → IsHub h → h.job ≡ job → parts ≡ fragments_of job → Tells h story → AllZip (λ (local : LocalValues) (w : Worker). local.values ≡ w.values) locals (workers_of h) → HaveSizes h locals →
     AreLocalsOf job parts story locals
 locals_of h job parts story locals hub same all tells values sizes =
     let here : parts ≡ fragments_of h.job = all ∙ ap (λ (j : Job). fragments_of j) (sym same) in

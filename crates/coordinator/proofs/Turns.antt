@@ -1,7 +1,7 @@
 -- One turn of the lane.
 use Rattle.std.proofs.Common.{◌≡◌, ℕ, ◌<◌, ◌⊎◌, inl, inr, Bool, true, false, MatchBool, refl, sym, ◌∙◌, ap, subst, arith, List, [], ◌∷◌, length, reverse, slice_index_or, length-append}
 use Rattle.std.proofs.lemmas.Bool.{false≢true, MatchBool-at_false}
-use Rattle.std.proofs.lemmas.List.{reverse-append}
+use Rattle.std.proofs.lemmas.List.{reverse-append, get_or-set_same}
 use Rattle.std.proofs.lemmas.List.FromFn.{length-map-range_with_len, get_or-map-range_with_len}
 use Rattle.graph_core.specs.declared.job.Job.{Job}
 use Rattle.graph_core.specs.Parts.{FragmentLists}
@@ -26,6 +26,9 @@ use Rattle.grape_hub.specs.HubValues.{HubValues}
 use Rattle.grape_hub.specs.States.{machine, state_of, IsHub}
 use Rattle.grape_hub.specs.Calls.{Appended, AppendedUnlessEnded, Unchanged, ChoosesDuty, IsWork}
 use Rattle.grape_hub.specs.Theorems.{IsCalm, CalmAfterOther}
+use Rattle.grape_hub.specs.declared.lane_record.LaneRecord.{LaneRecord}
+use Rattle.grape_hub.specs.declared.work.Next.TheVariants.{Took}
+use Rattle.grape_hub.specs.LanedHub.{LanedHub, IsLanedHub, no_record, lane_at, is_out_at, after_answer, lanes_after_answer}
 use Rattle.grape_hub.proofs.Ready.{worker_in_range}
 
 -- the fragment of a Work is there, and is its worker's
@@ -119,6 +122,13 @@ given_after_take old taken given i lane j more after =
     let going : has_ended (reverse taken.journal.events) ≡ false =
     ap (λ (es : List Event). has_ended (reverse es)) more.2 ∙ ap (λ (es : List Event). has_ended es) (reverse-append old.journal.events (Take i lane ∷ [])) in
     MatchBool-at_false _ _ going after
+
+-- the lane has its Work out
+pub took_is_out : (old new : LanedHub) (lane : ℕ) (work : Work) → IsLanedHub old → lane < old.hub.job.settings.lanes → new.lanes ≡ lanes_after_answer old lane (Took work) new.hub → is_out_at new lane ≡ true
+took_is_out old new lane work stands inside same =
+    let count = stands.1.count in
+    ap (λ (rs : List LaneRecord). (slice_index_or rs lane no_record).out) same
+    ∙ ap (λ (r : LaneRecord). r.out) (get_or-set_same old.lanes lane (after_answer 1 (length new.hub.journal.events) (lane_at old lane)) no_record (omega (arith, inside, count)))
 
 -- ---- a Stop
 

@@ -5,7 +5,8 @@ use Rattle.base_machine.specs.Fitness.{IsInForm}
 use Rattle.legal_journal.specs.Legal.{has_work_out}
 use Rattle.grape_hub.specs.declared.work.Work.{Work}
 use Rattle.grape_hub.specs.HubValues.{HubValues}
-use Rattle.grape_hub.specs.States.{machine, state_of, sealed_epoch, IsHub}
+use Rattle.grape_hub.specs.States.{machine, state_of, sealed_epoch}
+use Rattle.grape_hub.specs.LanedHub.{LanedHub, IsLanedHub}
 use Rattle.grape_hub.specs.Calls.{IsWork, IsReady}
 
 -- a Work that may be evaluated, or nothing
@@ -25,9 +26,9 @@ pub record GoesAlong (old new : HubValues) : Type 0 where
   pub sealed : sealed_epoch (state_of old).past ≡ None → sealed_epoch (state_of new).past ≡ None
 
 -- A hub that two lanes drive: what they have out, nothing that is sealed and not kept, and a snapshot in the form.
-pub record IsDriven (h : HubValues) (one two : Option Work) (snapshot : SnapshotParts) : Type 0 where
-  pub hub : IsHub h
-  pub first : HasOut h 0 one
-  pub second : HasOut h 1 two
-  pub sealed : sealed_epoch (state_of h).past ≡ None
-  pub into : IsInForm (machine h) snapshot
+pub record IsDriven (x : LanedHub) (one two : Option Work) (snapshot : SnapshotParts) : Type 0 where
+  pub hub : IsLanedHub x
+  pub first : HasOut x.hub 0 one
+  pub second : HasOut x.hub 1 two
+  pub sealed : sealed_epoch (state_of x.hub).past ≡ None
+  pub into : IsInForm (machine x.hub) snapshot

@@ -2,3 +2,4 @@ pub mod Shapes
 pub mod Runs
 pub mod Turns
 pub mod Lanes
+pub mod Seats

@@ -1,9 +1,9 @@
-ghost use Rattle.std.specs.Prelude.{◌≡◌, true, [], reverse};
+ghost use Rattle.std.specs.Prelude.{◌≡◌, ℕ, ◌<◌, true, false, reverse};
 ghost use Rattle.graph_core.specs.Graphs.{IsJob};
 ghost use Rattle.graph_core.specs.Fragments.{fragments_of};
 ghost use Rattle.base_machine.specs.Machine.{system_of, fresh_snapshot};
 ghost use Rattle.legal_journal.specs.Past.{has_ended};
-ghost use Rattle.grape_hub.specs.States.{IsHub};
+ghost use Rattle.grape_hub.specs.LanedHub.{IsLanedHub, is_out_at};
 ghost use Rattle.grape_hub.specs.Theorems.{IsCalm};
 ghost use Rattle.coordinator.specs.Shapes.{shape_of};
 ghost use Rattle.coordinator.specs.Runs.{HasRun, LastEvent};
@@ -14,7 +14,7 @@ use crate::story::Story;
 use crate::turn::take_turn;
 use delay_stretch::Pacer;
 use grape_event::{Event, Journal};
-use grape_hub::{Hub, fresh_is_a_start, hubs_are_bounded, turns_are_calm};
+use grape_hub::{Hub, calm_is_empty, fresh_is_a_start, hubs_are_bounded, turns_are_calm};
 use graph_core::{Fragment, Job, Query};
 use pie_core::Pie;
 use pie_dist::Dist;
@@ -99,30 +99,58 @@ fn run_on<P: Pie, Q: Pacer>(
     ensures { HasRun job.now fragments.now result }
 {
     fresh_is_a_start();
-    hubs_are_bounded();
     turns_are_calm();
+    calm_is_empty();
     let Ok(start) = Snapshot::fresh(alloc, shape) else {
         return Ran::NoMemory;
-    };
-    let mut into = Snapshot {
-        epoch: 0,
-        parts: Vec::new(alloc),
     };
     let Ok(mut hub) = Hub::open(alloc, kept, job, fragments, pacers, start) else {
         return Ran::NoMemory;
     };
-    'turns: while take_turn(&mut hub, &mut into, fragments, program) {}
+    run_out(alloc, &mut hub, fragments, program);
     ended(alloc, job, fragments, hub)
 }
 
-/// What a hub whose journal has ended, with nobody out, tells of its run.
-fn ended<P: Pie, Q: Pacer>(alloc: Global, job: &Job, fragments: &[Fragment], hub: Hub<P, Q>) -> Ran
-    requires hub { IsHub hub }
-    requires same { hub.job ≡ job.now }
-    requires start { hub.start ≡ fresh_snapshot (system_of job.now) }
+/// Takes turns of one lane until the journal has ended. Nobody is out before and after.
+pub(crate) fn run_out<P: Pie, Q: Pacer>(
+    alloc: Global,
+    hub: &mut Hub<P, Q>,
+    fragments: &[Fragment],
+    program: &P,
+)
+    requires hub { IsLanedHub hub.old }
+    requires calm { IsCalm hub.old.hub }
+    requires snapshot { hub.old.hub.job.settings.snapshot ≡ 0 }
+    requires fragments { fragments.now ≡ fragments_of hub.old.hub.job }
+    requires program { P.is_for program.now hub.old.hub.job }
+    requires counters { hub.old.hub.counters ≡ P.counters_for hub.old.hub.job }
+    ensures same { (hub.new.hub.job ≡ hub.old.hub.job) × (hub.new.hub.start ≡ hub.old.hub.start) }
+    ensures hub { IsLanedHub hub.new }
+    ensures calm { IsCalm hub.new.hub }
+    ensures ended { has_ended (reverse hub.new.hub.journal.events) ≡ true }
+{
+    hubs_are_bounded();
+    // without snapshots nothing is written into it
+    let mut into = Snapshot {
+        epoch: 0,
+        parts: Vec::new(alloc),
+    };
+    'turns: while take_turn(hub, &mut into, fragments, program) {}
+}
+
+/// What a hub whose journal has ended, with no Work out, tells of its run.
+pub(crate) fn ended<P: Pie, Q: Pacer>(
+    alloc: Global,
+    job: &Job,
+    fragments: &[Fragment],
+    hub: Hub<P, Q>,
+) -> Ran
+    requires hub { IsLanedHub hub }
+    requires same { hub.hub.job ≡ job.now }
+    requires start { hub.hub.start ≡ fresh_snapshot (system_of job.now) }
     requires fragments { fragments.now ≡ fragments_of job.now }
-    requires ended { has_ended (reverse hub.journal.events) ≡ true }
-    requires calm { IsCalm hub }
+    requires ended { has_ended (reverse hub.hub.journal.events) ≡ true }
+    requires free { (lane : ℕ) → lane < hub.hub.job.settings.lanes → is_out_at hub lane ≡ false }
     ensures { HasRun job.now fragments.now result }
 {
     let (locals, journal, start) = hub.finish();

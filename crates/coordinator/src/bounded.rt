@@ -10,7 +10,7 @@ use delay_stretch::Seeded;
 use fragment_cut::fragment;
 use grape_event::{Event, Journal};
 use grape_port::NoMemory;
-use graph_core::{Fragment, Job};
+use graph_core::{Fragment, Job, Query};
 use graph_text::{LineReader, TextFault};
 use std::alloc::Global;
 use std::process::Abort;
@@ -68,12 +68,16 @@ fn takes_in(journal: &Journal) -> u64 {
 fn sends_at_most(rt: &impl Abort, job: &Job, part: &Fragment) -> u64
     requires { IsJob job.now }
 {
+    let order = match &job.query {
+        Query::Dist(_) | Query::Label | Query::Reach(_) => Order::Least,
+        Query::Sim(_) => Order::Mask,
+    };
     let mut sends = 0u64;
     for (place, vertex) in part.owned().iter().enumerate() {
         assert!(rt; place < 1000 && *vertex < job.graph.count());
         let start = job.start_of(*vertex);
         let routes = part.routes(place as u32).len() as u64;
-        sends = sends.saturating_add(height(Order::Least, start).saturating_mul(routes));
+        sends = sends.saturating_add(height(order, start).saturating_mul(routes));
     }
     sends
 }
@@ -145,8 +149,25 @@ fn settings_table() -> [&'static str; 8] {
     ]
 }
 
-pub(crate) fn query_table() -> [&'static str; 3] {
-    ["query dist 1\n", "query label\n", "query reach 1\n"]
+/// The pattern is a cycle of three labels, and a node without links.
+pub(crate) fn query_table() -> [&'static str; 4] {
+    [
+        "query dist 1\n",
+        "query label\n",
+        "query reach 1\n",
+        "query sim\nnode 0 1\nnode 1 2\nnode 2 0\nnode 3 2\nlink 0 1\nlink 1 2\nlink 2 0\n",
+    ]
+}
+
+/// The same lines, with one of three labels on each vertex up to this number.
+pub(crate) fn labelled(alloc: Global, lines: String, count: u32) -> Result<String, NoMemory> {
+    let mut lines = lines;
+    for vertex in 0..count {
+        let number = vertex.saturating_add(1);
+        let line = format!(in alloc; "v {number} {}\n", number % 3)?;
+        lines.push_str(line.as_str())?;
+    }
+    Ok(lines)
 }
 
 /// Stops where a run on these lines has too many Takes, or a worker none.
@@ -165,9 +186,10 @@ fn check_takes(rt: &impl Abort, alloc: Global, lines: &str) -> Result<(), TextFa
 
 #[test]
 fn takes_are_bounded(rt: HostRuntime) -> Result<(), Fail> {
-    check_takes(&rt, rt.alloc(), chain(rt.alloc(), 9)?.as_str())?;
-    check_takes(&rt, rt.alloc(), star(rt.alloc(), 9)?.as_str())?;
-    check_takes(&rt, rt.alloc(), cycle(rt.alloc(), 9)?.as_str())?;
-    check_takes(&rt, rt.alloc(), border(rt.alloc(), 5)?.as_str())?;
+    let alloc = rt.alloc();
+    check_takes(&rt, alloc, labelled(alloc, chain(alloc, 9)?, 9)?.as_str())?;
+    check_takes(&rt, alloc, labelled(alloc, star(alloc, 9)?, 8)?.as_str())?;
+    check_takes(&rt, alloc, labelled(alloc, cycle(alloc, 9)?, 9)?.as_str())?;
+    check_takes(&rt, alloc, labelled(alloc, border(alloc, 5)?, 9)?.as_str())?;
     Ok(())
 }

@@ -1,15 +1,19 @@
 //! Runs of a job, and what they start from.
 //!
-//! It promises of [`run_alone`] that it returns, that the journal of every story is legal and has ended, by End exactly
-//! where the run is done, and that a run that is done has the values of all workers then. Of [`shape_of`] it promises the
-//! query's order and the start value of each place, so that the fresh snapshot of the shape is the one with which a run
-//! begins.
+//! It promises of [`run_alone`] and [`run_lanes`] that the journal of every story is legal and has ended, by End exactly
+//! where the run is done, and that a run that is done has the values of all workers then. [`run_alone`] returns;
+//! [`run_lanes`] waits for its threads. Of [`shape_of`] it promises the query's order and the start value of each place,
+//! so that the fresh snapshot of the shape is the one with which a run begins.
 #![tactic(auto)]
 
 mod alone;
 #[cfg(test)]
 mod bounded;
+mod duties;
 mod kept_at;
+mod lanes;
+#[cfg(test)]
+mod lanes_agree;
 mod laws;
 #[cfg(test)]
 mod policies;
@@ -26,6 +30,7 @@ mod turn;
 
 pub use alone::run_alone;
 pub use kept_at::KeptAt;
+pub use lanes::run_lanes;
 pub use laws::{done_is_the_answer, shapes_begin_runs};
 pub use ran::Ran;
 pub use shape::shape_of;

@@ -3,7 +3,7 @@
 ghost use Rattle.graph_core.specs.Graphs.{IsJob};
 ghost use Rattle.graph_text.specs.Input.{IsBuilt};
 
-use crate::bounded::{cycle, job_of, query_table, star};
+use crate::bounded::{cycle, job_of, labelled, query_table, star};
 use crate::{Ran, run_alone, shape_of};
 use answer_text::{Answer, assemble, write_answer};
 use delay_stretch::{Calm, Pacer, Scripted, Seeded};
@@ -164,9 +164,9 @@ fn joined(alloc: Global, front: &str, back: &str) -> Result<String, NoMemory> {
 #[test]
 fn one_answer_to_a_job(rt: HostRuntime) -> Result<(), Fail> {
     let alloc = rt.alloc();
-    check_queries(&rt, alloc, cycle(alloc, 9)?.as_str())?;
-    check_queries(&rt, alloc, star(alloc, 9)?.as_str())?;
-    check_queries(&rt, alloc, grid(alloc, 4)?.as_str())?;
+    check_queries(&rt, alloc, labelled(alloc, cycle(alloc, 9)?, 9)?.as_str())?;
+    check_queries(&rt, alloc, labelled(alloc, star(alloc, 9)?, 8)?.as_str())?;
+    check_queries(&rt, alloc, labelled(alloc, grid(alloc, 4)?, 40)?.as_str())?;
     Ok(())
 }
 

@@ -8,24 +8,26 @@ ghost use Rattle.base_machine.specs.Machine.{System, system_of};
 ghost use Rattle.base_machine.specs.Fitness.{IsInForm};
 ghost use Rattle.legal_journal.specs.Past.{has_ended};
 ghost use Rattle.legal_journal.specs.Legal.{has_work_out};
-ghost use Rattle.grape_hub.specs.States.{machine, state_of, sealed_epoch, IsHub};
+ghost use Rattle.grape_hub.specs.States.{machine, state_of, sealed_epoch};
+ghost use Rattle.grape_hub.specs.LanedHub.{IsLanedHub};
 ghost use Rattle.coordinator.specs.Lanes.{HasOut, LaneKeeps, GoesAlong, IsDriven};
 
 use crate::alone::last_event;
-use crate::bounded::{cycle, job_of, query_table, star};
+use crate::bounded::{cycle, job_of, labelled, query_table, star};
 use crate::policies::{answer_calmly, check_rows};
 use crate::shape_of;
 use answer_text::{Answer, assemble};
 use delay_stretch::{Calm, Pacer};
 use fragment_cut::fragment;
 use grape_event::{Event, Journal};
-use grape_hub::{Duty, Hub, Next, Work};
+use grape_hub::{Duty, Hub, Next, Work, calm_is_empty};
 use grape_port::NoMemory;
 use graph_core::{Fragment, Job, Query};
 use graph_text::TextFault;
 use pie_core::{Pie, evaluate};
 use pie_dist::Dist;
 use pie_flood::{Labels, Reach};
+use pie_sim::Sim;
 use rand_core::SeedableRng;
 use rand_core::utils::NextWord;
 use rand_xoshiro::SplitMix64;
@@ -39,13 +41,13 @@ const MOST_STEPS: u32 = 20_000;
 
 /// A duty of the coordinator. A snapshot that it seals is kept at once, and is then in `into`. Says whether it sealed one.
 fn do_duty<P: Pie, Q: Pacer>(hub: &mut Hub<P, Q>, into: &mut Snapshot) -> bool
-    requires hub { IsHub hub.old }
-    requires sealed { sealed_epoch (state_of hub.old).past ≡ None }
-    requires into { IsInForm (machine hub.old) into.old }
-    ensures along { GoesAlong hub.old hub.new }
-    ensures hub { IsHub hub.new }
-    ensures lanes { (lane : ℕ) → LaneKeeps lane hub.old hub.new }
-    ensures into { IsInForm (machine hub.new) into.new }
+    requires hub { IsLanedHub hub.old }
+    requires sealed { sealed_epoch (state_of hub.old.hub).past ≡ None }
+    requires into { IsInForm (machine hub.old.hub) into.old }
+    ensures along { GoesAlong hub.old.hub hub.new.hub }
+    ensures hub { IsLanedHub hub.new }
+    ensures lanes { (lane : ℕ) → LaneKeeps lane hub.old.hub hub.new.hub }
+    ensures into { IsInForm (machine hub.new.hub) into.new }
 {
     match hub.duty(into) {
         Duty::Sealed(epoch) => {
@@ -67,16 +69,16 @@ fn give_back<P: Pie, Q: Pacer>(
     fragments: &[Fragment],
     program: &P,
 )
-    requires hub { IsHub hub.old }
-    requires out { HasOut hub.old lane (Some work) }
-    requires going { has_ended (reverse hub.old.journal.events) ≡ false }
-    requires fragments { fragments.now ≡ fragments_of hub.old.job }
-    requires program { P.is_for program.now hub.old.job }
-    requires counters { hub.old.counters ≡ P.counters_for hub.old.job }
-    ensures along { GoesAlong hub.old hub.new }
-    ensures hub { IsHub hub.new }
-    ensures free { has_work_out (state_of hub.new) lane ≡ false }
-    ensures lanes { (other : ℕ) → other ≢ lane → LaneKeeps other hub.old hub.new }
+    requires hub { IsLanedHub hub.old }
+    requires out { HasOut hub.old.hub lane (Some work) }
+    requires going { has_ended (reverse hub.old.hub.journal.events) ≡ false }
+    requires fragments { fragments.now ≡ fragments_of hub.old.hub.job }
+    requires program { P.is_for program.now hub.old.hub.job }
+    requires counters { hub.old.hub.counters ≡ P.counters_for hub.old.hub.job }
+    ensures along { GoesAlong hub.old.hub hub.new.hub }
+    ensures hub { IsLanedHub hub.new }
+    ensures free { has_work_out (state_of hub.new.hub) lane ≡ false }
+    ensures lanes { (other : ℕ) → other ≢ lane → LaneKeeps other hub.old.hub hub.new.hub }
 {
     let mut work = work;
     let part = &fragments[work.worker as usize];
@@ -86,13 +88,13 @@ fn give_back<P: Pie, Q: Pacer>(
 
 /// The next event of a lane that has no Work out, and the Work where it is a Take.
 fn take_next<P: Pie, Q: Pacer>(hub: &mut Hub<P, Q>, lane: u32) -> Option<Work>
-    requires hub { IsHub hub.old }
-    requires lane { lane < hub.old.job.settings.lanes }
-    requires free { has_work_out (state_of hub.old) lane ≡ false }
-    ensures along { GoesAlong hub.old hub.new }
-    ensures hub { IsHub hub.new }
-    ensures out { HasOut hub.new lane result }
-    ensures lanes { (other : ℕ) → other ≢ lane → LaneKeeps other hub.old hub.new }
+    requires hub { IsLanedHub hub.old }
+    requires lane { lane < hub.old.hub.job.settings.lanes }
+    requires free { has_work_out (state_of hub.old.hub) lane ≡ false }
+    ensures along { GoesAlong hub.old.hub hub.new.hub }
+    ensures hub { IsLanedHub hub.new }
+    ensures out { HasOut hub.new.hub lane result }
+    ensures lanes { (other : ℕ) → other ≢ lane → LaneKeeps other hub.old.hub hub.new.hub }
 {
     match hub.next(lane) {
         Next::Took(work) => Some(work),
@@ -111,17 +113,17 @@ fn do_lane<P: Pie, Q: Pacer>(
     fragments: &[Fragment],
     program: &P,
 ) -> Option<Work>
-    requires hub { IsHub hub.old }
-    requires lane { lane < hub.old.job.settings.lanes }
-    requires out { HasOut hub.old lane work }
-    requires fragments { fragments.now ≡ fragments_of hub.old.job }
-    requires program { P.is_for program.now hub.old.job }
-    requires counters { hub.old.counters ≡ P.counters_for hub.old.job }
-    requires going { has_ended (reverse hub.old.journal.events) ≡ false }
-    ensures along { GoesAlong hub.old hub.new }
-    ensures hub { IsHub hub.new }
-    ensures out { HasOut hub.new lane result }
-    ensures lanes { (other : ℕ) → other ≢ lane → LaneKeeps other hub.old hub.new }
+    requires hub { IsLanedHub hub.old }
+    requires lane { lane < hub.old.hub.job.settings.lanes }
+    requires out { HasOut hub.old.hub lane work }
+    requires fragments { fragments.now ≡ fragments_of hub.old.hub.job }
+    requires program { P.is_for program.now hub.old.hub.job }
+    requires counters { hub.old.hub.counters ≡ P.counters_for hub.old.hub.job }
+    requires going { has_ended (reverse hub.old.hub.journal.events) ≡ false }
+    ensures along { GoesAlong hub.old.hub hub.new.hub }
+    ensures hub { IsLanedHub hub.new }
+    ensures out { HasOut hub.new.hub lane result }
+    ensures lanes { (other : ℕ) → other ≢ lane → LaneKeeps other hub.old.hub hub.new.hub }
 {
     match work {
         Some(work) => {
@@ -140,7 +142,7 @@ fn step_duty<P: Pie, Q: Pacer>(
     second: Option<Work>,
 ) -> (Option<Work>, Option<Work>, bool)
     requires driven { IsDriven hub.old first second into.old }
-    ensures along { GoesAlong hub.old hub.new }
+    ensures along { GoesAlong hub.old.hub hub.new.hub }
     ensures driven { IsDriven hub.new result.0 result.1 into.new }
 {
     let sealed = do_duty(hub, into);
@@ -157,12 +159,12 @@ fn step_first<P: Pie, Q: Pacer>(
     program: &P,
 ) -> (Option<Work>, Option<Work>, bool)
     requires driven { IsDriven hub.old first second into.now }
-    requires lanes { 2 ≤ hub.old.job.settings.lanes }
-    requires going { has_ended (reverse hub.old.journal.events) ≡ false }
-    requires fragments { fragments.now ≡ fragments_of hub.old.job }
-    requires program { P.is_for program.now hub.old.job }
-    requires counters { hub.old.counters ≡ P.counters_for hub.old.job }
-    ensures along { GoesAlong hub.old hub.new }
+    requires lanes { 2 ≤ hub.old.hub.job.settings.lanes }
+    requires going { has_ended (reverse hub.old.hub.journal.events) ≡ false }
+    requires fragments { fragments.now ≡ fragments_of hub.old.hub.job }
+    requires program { P.is_for program.now hub.old.hub.job }
+    requires counters { hub.old.hub.counters ≡ P.counters_for hub.old.hub.job }
+    ensures along { GoesAlong hub.old.hub hub.new.hub }
     ensures driven { IsDriven hub.new result.0 result.1 into.now }
 {
     let out = do_lane(hub, 0, first, fragments, program);
@@ -179,12 +181,12 @@ fn step_second<P: Pie, Q: Pacer>(
     program: &P,
 ) -> (Option<Work>, Option<Work>, bool)
     requires driven { IsDriven hub.old first second into.now }
-    requires lanes { 2 ≤ hub.old.job.settings.lanes }
-    requires going { has_ended (reverse hub.old.journal.events) ≡ false }
-    requires fragments { fragments.now ≡ fragments_of hub.old.job }
-    requires program { P.is_for program.now hub.old.job }
-    requires counters { hub.old.counters ≡ P.counters_for hub.old.job }
-    ensures along { GoesAlong hub.old hub.new }
+    requires lanes { 2 ≤ hub.old.hub.job.settings.lanes }
+    requires going { has_ended (reverse hub.old.hub.journal.events) ≡ false }
+    requires fragments { fragments.now ≡ fragments_of hub.old.hub.job }
+    requires program { P.is_for program.now hub.old.hub.job }
+    requires counters { hub.old.hub.counters ≡ P.counters_for hub.old.hub.job }
+    ensures along { GoesAlong hub.old.hub hub.new.hub }
     ensures driven { IsDriven hub.new result.0 result.1 into.now }
 {
     let out = do_lane(hub, 1, second, fragments, program);
@@ -203,12 +205,12 @@ fn step<P: Pie, Q: Pacer>(
     program: &P,
 ) -> (Option<Work>, Option<Work>, bool)
     requires driven { IsDriven hub.old first second into.old }
-    requires lanes { 2 ≤ hub.old.job.settings.lanes }
-    requires going { has_ended (reverse hub.old.journal.events) ≡ false }
-    requires fragments { fragments.now ≡ fragments_of hub.old.job }
-    requires program { P.is_for program.now hub.old.job }
-    requires counters { hub.old.counters ≡ P.counters_for hub.old.job }
-    ensures along { GoesAlong hub.old hub.new }
+    requires lanes { 2 ≤ hub.old.hub.job.settings.lanes }
+    requires going { has_ended (reverse hub.old.hub.journal.events) ≡ false }
+    requires fragments { fragments.now ≡ fragments_of hub.old.hub.job }
+    requires program { P.is_for program.now hub.old.hub.job }
+    requires counters { hub.old.hub.counters ≡ P.counters_for hub.old.hub.job }
+    ensures along { GoesAlong hub.old.hub hub.new.hub }
     ensures driven { IsDriven hub.new result.0 result.1 into.new }
 {
     if choice == 0 {
@@ -246,13 +248,13 @@ fn drive<P: Pie, Q: Pacer>(
     seed: u64,
 ) -> Result<Vec<Snapshot>, NoMemory>
     requires driven { IsDriven hub.old None None into.old }
-    requires lanes { 2 ≤ hub.old.job.settings.lanes }
-    requires fragments { fragments.now ≡ fragments_of hub.old.job }
-    requires program { P.is_for program.now hub.old.job }
-    requires counters { hub.old.counters ≡ P.counters_for hub.old.job }
-    ensures job { hub.new.job ≡ hub.old.job }
-    ensures hub { IsHub hub.new }
-    ensures sealed { IfOk result (λ kept. All (λ s. IsInForm (machine hub.old) s) kept.items) }
+    requires lanes { 2 ≤ hub.old.hub.job.settings.lanes }
+    requires fragments { fragments.now ≡ fragments_of hub.old.hub.job }
+    requires program { P.is_for program.now hub.old.hub.job }
+    requires counters { hub.old.hub.counters ≡ P.counters_for hub.old.hub.job }
+    ensures job { hub.new.hub.job ≡ hub.old.hub.job }
+    ensures hub { IsLanedHub hub.new }
+    ensures sealed { IfOk result (λ kept. All (λ s. IsInForm (machine hub.old.hub) s) kept.items) }
 {
     let mut words = SplitMix64::seed_from_u64(seed);
     let mut kept = Vec::new(alloc);
@@ -278,11 +280,12 @@ fn answer_at_end<P: Pie, Q: Pacer>(
     fragments: &[Fragment],
     hub: Hub<P, Q>,
 ) -> Result<(Answer, Journal), TextFault>
-    requires hub { IsHub hub }
+    requires hub { IsLanedHub hub }
     requires job { IsJob job.now }
-    requires same { hub.job ≡ job.now }
+    requires same { hub.hub.job ≡ job.now }
     requires fragments { fragments.now ≡ fragments_of job.now }
 {
+    calm_is_empty();
     if !hub.journal().ended() {
         return Err(TextFault::NoMemory);
     }
@@ -351,7 +354,11 @@ fn driven(
             let own = Reach::new();
             driven_by(alloc, job, fragments, start, seed, &Reach::new(), own)
         }
-        Query::Sim(_) => Err(TextFault::NoMemory),
+        Query::Sim(pattern) => {
+            let own = Sim::new(alloc, pattern)?;
+            let program = Sim::new(alloc, pattern)?;
+            driven_by(alloc, job, fragments, start, seed, &program, own)
+        }
     }
 }
 
@@ -506,8 +513,18 @@ fn snapshots_give_the_answer(rt: HostRuntime) -> Result<(), Fail> {
         unmarked: 0,
     };
     let seen = check_lines(&rt, alloc, joined_lines(), seen)?;
-    let seen = check_lines(&rt, alloc, cycle(alloc, 6)?.as_str(), seen)?;
-    let seen = check_lines(&rt, alloc, star(alloc, 6)?.as_str(), seen)?;
+    let seen = check_lines(
+        &rt,
+        alloc,
+        labelled(alloc, cycle(alloc, 6)?, 6)?.as_str(),
+        seen,
+    )?;
+    let seen = check_lines(
+        &rt,
+        alloc,
+        labelled(alloc, star(alloc, 6)?, 5)?.as_str(),
+        seen,
+    )?;
     assert!(rt; seen.snapshots > 0);
     assert!(rt; seen.marked > 0);
     assert!(rt; seen.unmarked > 0);

@@ -25,7 +25,7 @@ calm_is_free h lane calm = any_none _ (worker_count (state_of h)) (λ i l. and_l
 -- ---- at the beginning
 
 -- a worker begins fresh or at rest
-begins_calm : (n : ℕ) (parts : List PartValues) (i : ℕ) → is_running (worker_at (map (worker_of n) parts) i) ≡ false
+pub begins_calm : (n : ℕ) (parts : List PartValues) (i : ℕ) → is_running (worker_at (map (worker_of n) parts) i) ≡ false
 begins_calm n [] i = refl
 begins_calm n (p ∷ parts) zero = of_phase p.phase
   where
@@ -45,7 +45,7 @@ received_runs j number [] w = refl
 received_runs j number (p ∷ posts) w = refl
 
 -- a Give leaves out only those who were out, and not the giver
-after_give : (sys : System) (s : State) (i k : ℕ) → k < length s.workers → (k ≢ i → is_running (worker_at s.workers k) ≡ false) → is_running (worker_at (state_after sys s (Give i)).workers k) ≡ false
+pub after_give : (sys : System) (s : State) (i k : ℕ) → k < length s.workers → (k ≢ i → is_running (worker_at s.workers k) ≡ false) → is_running (worker_at (state_after sys s (Give i)).workers k) ≡ false
 after_give sys s i k l idle =
     ap (λ (w : Worker). is_running w) (after-at sys s.workers (BaseGive i) k l)
     ∙ elim (cases_eq k i) [

@@ -77,7 +77,7 @@ module _ (old new : HubValues) (e : Event) (more : Appended old e new) where
       ∙ (ap (λ l. state_at_end (machine old) old.start l) more.2 ∙ (journals_grow (machine old) old.start old.journal.events e).1))
 
   -- the journal has ended where the event is a last one
-  ends_with : has_ended (reverse new.journal.events) ≡ is_last e
+  pub ends_with : has_ended (reverse new.journal.events) ≡ is_last e
   ends_with = ap (λ (es : List Event). has_ended (reverse es)) more.2 ∙ ap (λ (es : List Event). has_ended es) (reverse-append old.journal.events (e ∷ []))
 
   pub hub_grown : IsHub old → IsTrue (is_admitted (machine old) (state_of old) e) → (is_last e ≡ false → events_owed (state_after (machine old) (state_of old) e) ≤ new.journal.spare) → IsHub new

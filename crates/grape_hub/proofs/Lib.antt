@@ -40,3 +40,7 @@ pub mod Without
 pub mod Seals
 pub mod Sealings
 pub mod Staying
+pub mod NotesStay
+pub mod Grounds
+pub mod NoteLaws
+pub mod LanesKept

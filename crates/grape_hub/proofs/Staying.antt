@@ -1,5 +1,5 @@
 -- What an event leaves of the Works that are out, and of the lanes that are free.
-use Rattle.std.proofs.Common.{◌≡◌, ◌≢◌, ℕ, ◌+◌, ◌<◌, ◌⊎◌, inl, inr, Bool, true, false, not, ◌&&◌, ◌||◌, ◌==◌, if◌then◌else◌, IsTrue, refl, sym, ◌∙◌, ap, subst, arith, List, [], ◌∷◌, length, take, Option, Some, None}
+use Rattle.std.proofs.Common.{◌≡◌, ◌≢◌, ℕ, ◌+◌, ◌<◌, ◌⊎◌, inl, inr, Bool, true, false, not, ◌&&◌, ◌==◌, if◌then◌else◌, IsTrue, refl, sym, ◌∙◌, ap, subst, arith, List, [], ◌∷◌, length, take, Option, Some, None}
 use Rattle.std.specs.List.{list_any}
 use Rattle.std.proofs.lemmas.Bool.{and_parts, and_from, and_left, or_cases, eqb-true, eq-eqb, cases_eq, ne_eqb, cases_Bool, false≢true}
 use Rattle.std.proofs.lemmas.List.FromFn.{length-range_with_len, get_or-range_with_len}
@@ -13,7 +13,7 @@ use Rattle.base_machine.specs.Machine.{System, system_of, BaseTake, BaseGive, St
 use Rattle.base_machine.proofs.Swapping.{after-at, as_before}
 use Rattle.legal_journal.specs.Past.{lane_of, gives_of_each}
 use Rattle.legal_journal.specs.Delays.{delay_is_over}
-use Rattle.legal_journal.specs.Legal.{State, start_state, state_after, row_admits, worker_count, has_work_out, rests_with_mail, IsLegal}
+use Rattle.legal_journal.specs.Legal.{State, start_state, state_after, row_admits, is_admitted, worker_count, is_lane, is_out_with, has_work_out, rests_with_mail, IsLegal}
 use Rattle.legal_journal.proofs.Walks.{kept_along, journals_grow, state_after_all-append}
 use Rattle.legal_journal.proofs.Choosing.{any_none}
 use Rattle.legal_journal.proofs.Probes.{both, same_count, not_running, ready_to_take}
@@ -29,7 +29,7 @@ use Rattle.grape_hub.proofs.Ready.{with_event}
 -- ---- what an event leaves of a worker
 
 -- the event is a Take or a Give of worker i
-abbrev touches : ℕ → Event → Bool
+abbrev pub touches : ℕ → Event → Bool
 touches i (Take j k) = i == j
 touches i (Give j) = i == j
 touches i _ = false
@@ -51,16 +51,16 @@ untouched End i t g = refl
 untouched (Stop c) i t g = refl
 
 -- what stays of worker i
-record Stays (s t : State) (i : ℕ) : Type 0 where
-  standing : (worker_at t.workers i).standing ≡ (worker_at s.workers i).standing
-  values : (worker_at t.workers i).values ≡ (worker_at s.workers i).values
-  lane : lane_of i t.past ≡ lane_of i s.past
-  since : take_place i t.past ≡ take_place i s.past
+pub record Stays (s t : State) (i : ℕ) : Type 0 where
+  pub standing : (worker_at t.workers i).standing ≡ (worker_at s.workers i).standing
+  pub values : (worker_at t.workers i).values ≡ (worker_at s.workers i).values
+  pub lane : lane_of i t.past ≡ lane_of i s.past
+  pub since : take_place i t.past ≡ take_place i s.past
 
 differ : (i j : ℕ) → (i == j) ≡ false → i ≢ j
 differ i j h e = both (eq-eqb i j e) h
 
-stays : (sys : System) (s : State) (e : Event) (i : ℕ) → i < worker_count s → touches i e ≡ false → Stays s (state_after sys s e) i
+pub stays : (sys : System) (s : State) (e : Event) (i : ℕ) → i < worker_count s → touches i e ≡ false → Stays s (state_after sys s e) i
 stays sys s (Take j k) i l h =
     let b = as_before sys s.workers (BaseTake j (gives_of_each (numbers_below (worker_count s)) s.past)) i l (differ i j h) in
     record {
@@ -83,7 +83,7 @@ stays sys s (Kept n) i l h = record { standing = refl; values = refl; lane = ref
 stays sys s End i l h = record { standing = refl; values = refl; lane = refl; since = refl }
 stays sys s (Stop c) i l h = record { standing = refl; values = refl; lane = refl; since = refl }
 
-hand_same : (w w' : Worker) → w'.standing ≡ w.standing → hand_of w' ≡ hand_of w
+pub hand_same : (w w' : Worker) → w'.standing ≡ w.standing → hand_of w' ≡ hand_of w
 hand_same w w' e = ap (λ (x : Standing). hand_of (record w { standing = x })) e
 
 -- ---- Works
@@ -97,7 +97,7 @@ not_fresh w h k =
     ] h k
 
 -- a worker that is out isn't taken
-not_taken : (sys : System) (s : State) (i k : ℕ) → is_running (worker_at s.workers i) ≡ true → IsTrue (row_admits sys s (Take i k)) → ⊥
+pub not_taken : (sys : System) (s : State) (i k : ℕ) → is_running (worker_at s.workers i) ≡ true → IsTrue (row_admits sys s (Take i k)) → ⊥
 not_taken sys s i k out row =
     elim (or_cases (is_fresh (worker_at s.workers i)) _ (ready_to_take sys s i k row)) [
       | inl f ↦ not_fresh (worker_at s.workers i) out f
@@ -105,11 +105,14 @@ not_taken sys s i k out row =
     ]
 
 -- the event that a hub has more was admitted
-was_admitted : (old new : HubValues) (e : Event) → Appended old e new → IsHub new → IsTrue (row_admits (machine old) (state_of old) e)
-was_admitted old new e more hub =
+pub admitted_more : (old new : HubValues) (e : Event) → Appended old e new → IsHub new → IsTrue (is_admitted (machine old) (state_of old) e)
+admitted_more old new e more hub =
     let legal = subst (IsLegal (machine old) old.start) more.2
     (subst (λ (start : SnapshotParts). IsLegal (machine old) start new.journal.events) more.3 (subst (λ (job : Job). IsLegal (system_of job) new.start new.journal.events) more.0 hub.legal)) in
-    (and_parts _ _ ((journals_grow (machine old) old.start old.journal.events e).2.0 legal).1).1
+    ((journals_grow (machine old) old.start old.journal.events e).2.0 legal).1
+
+was_admitted : (old new : HubValues) (e : Event) → Appended old e new → IsHub new → IsTrue (row_admits (machine old) (state_of old) e)
+was_admitted old new e more hub = (and_parts _ _ (admitted_more old new e more hub)).1
 
 out_stays : (s t : State) (lane i place : ℕ) → worker_count t ≡ worker_count s → Stays s t i → IsOut s lane i place → IsOut t lane i place
 out_stays s t lane i place n k out =
@@ -151,26 +154,6 @@ works_stay old new lane fresh work e w r more hub other =
 
 -- ---- lanes
 
--- this lane took it last
-abbrev is_by : ℕ → Option ℕ → Bool
-is_by k None = false
-is_by k (Some l) = k == l
-
--- worker i is out with lane k
-abbrev is_out_with : State → ℕ → ℕ → Bool
-is_out_with s k i = is_running (worker_at s.workers i) && is_by k (lane_of i s.past)
-
-lane_or_none : (o : Option ℕ) → (o ≡ None) ⊎ ((l : ℕ) × (o ≡ Some l))
-lane_or_none None = inl refl
-lane_or_none (Some l) = inr (l, refl)
-
-any_same : (f g : ℕ → Bool) → ((i : ℕ) → f i ≡ g i) → (xs : List ℕ) → list_any f xs ≡ list_any g xs
-any_same f g h [] = refl
-any_same f g h (x ∷ xs) = λ t. h x t || any_same f g h xs t
-
-has_out : (s : State) (k : ℕ) → has_work_out s k ≡ list_any (is_out_with s k) (numbers_below (worker_count s))
-has_out s k = any_same _ (is_out_with s k) (λ i. elim (lane_or_none (lane_of i s.past)) [ inl e ↦ rw e refl | inr p ↦ rw p.1 refl ]) (numbers_below (worker_count s))
-
 none_of : (test : ℕ → Bool) (n : ℕ) → list_any test (numbers_below n) ≡ false → (i : ℕ) → i < n → test i ≡ false
 none_of test n h i l = elim (cases_Bool (test i)) [
   | inl t ↦
@@ -179,30 +162,34 @@ none_of test n h i l = elim (cases_Bool (test i)) [
   | inr f ↦ f
 ]
 
-free_each : (s : State) (k : ℕ) → has_work_out s k ≡ false → (i : ℕ) → i < worker_count s → is_out_with s k i ≡ false
-free_each s k h = none_of (is_out_with s k) (worker_count s) (sym (has_out s k) ∙ h)
+pub free_each : (s : State) (k : ℕ) → has_work_out s k ≡ false → (i : ℕ) → i < worker_count s → is_out_with s k i ≡ false
+free_each s k h = none_of (is_out_with s k) (worker_count s) (h)
 
-free_from : (s : State) (k : ℕ) → ((i : ℕ) → i < worker_count s → is_out_with s k i ≡ false) → has_work_out s k ≡ false
-free_from s k h = has_out s k ∙ any_none (is_out_with s k) (worker_count s) h
+pub free_from : (s : State) (k : ℕ) → ((i : ℕ) → i < worker_count s → is_out_with s k i ≡ false) → has_work_out s k ≡ false
+free_from s k h = any_none (is_out_with s k) (worker_count s) h
 
-other_out : (s t : State) (k i : ℕ) → Stays s t i → is_out_with t k i ≡ is_out_with s k i
-other_out s t k i h = λ q. running_same (worker_at s.workers i) (worker_at t.workers i) h.standing q && is_by k (h.lane q)
+pub other_out : (s t : State) (k i : ℕ) → Stays s t i → is_out_with t k i ≡ is_out_with s k i
+other_out s t k i h = λ q. running_same (worker_at s.workers i) (worker_at t.workers i) h.standing q && is_lane k (h.lane q)
 
 -- who gives isn't out
-giver_out : (sys : System) (s : State) (k i : ℕ) → i < worker_count s → is_out_with (state_after sys s (Give i)) k i ≡ false
+pub giver_out : (sys : System) (s : State) (k i : ℕ) → i < worker_count s → is_out_with (state_after sys s (Give i)) k i ≡ false
 giver_out sys s k i l =
     and_left _ _ (ap (λ (w : Worker). is_running w) (after-at sys s.workers (BaseGive i) i l)
     ∙ ap (λ b. is_running (if b then after_giving sys (piece_at sys.pieces i) (worker_at s.workers i) else after_receiving i ((worker_at s.workers i).gives + 1) (sent_to sys (piece_at sys.pieces i) (worker_at s.workers i) i) (worker_at s.workers i))) (eq-eqb i i refl))
 
-by_lane : (k : ℕ) (o : Option ℕ) → is_by k o ≡ true → o ≡ Some k
+pub by_lane : (k : ℕ) (o : Option ℕ) → is_lane k o ≡ true → o ≡ Some k
 by_lane k None h = absurd (false≢true h)
 by_lane k (Some l) h = ap (λ n. Some n) (sym (eqb-true k l h))
 
-same_lane : (k l : ℕ) → Some k ≡ Some l → k ≡ l
+pub same_lane : (k l : ℕ) → Some k ≡ Some l → k ≡ l
 same_lane k l e = ap (λ (o : Option ℕ). elim o as (λ _. ℕ) [ None ↦ k | Some q ↦ q ]) e
 
+-- who is out by the journal is out with its lane
+pub out_with : (s : State) (lane worker place : ℕ) → IsOut s lane worker place → is_out_with s lane worker ≡ true
+out_with s lane worker place out = and_from _ _ out.running (ap (λ o. is_lane lane o) out.by_lane ∙ eq-eqb lane lane refl)
+
 -- who is taken is out with no other lane
-taker_out : (sys : System) (s : State) (k i lane : ℕ) → is_out_with (state_after sys s (Take i lane)) k i ≡ true → k ≡ lane
+pub taker_out : (sys : System) (s : State) (k i lane : ℕ) → is_out_with (state_after sys s (Take i lane)) k i ≡ true → k ≡ lane
 taker_out sys s k i lane h =
     same_lane k lane (sym (by_lane k _ (and_parts _ _ h).1) ∙ ap (λ b. if b then Some lane else lane_of i s.past) (eq-eqb i i refl))
 
@@ -232,7 +219,7 @@ free_stays sys s k e other i l h = elim (cases_Bool (touches i e)) [
     touched End other t = absurd (false≢true t)
     touched (Stop c) other t = absurd (false≢true t)
 
-lane_stays : (old new : HubValues) (lane : ℕ) (e : Event) → has_work_out (state_of old) lane ≡ false → ((i : ℕ) → e ≡ Take i lane → ⊥) → Appended old e new → has_work_out (state_of new) lane ≡ false
+pub lane_stays : (old new : HubValues) (lane : ℕ) (e : Event) → has_work_out (state_of old) lane ≡ false → ((i : ℕ) → e ≡ Take i lane → ⊥) → Appended old e new → has_work_out (state_of new) lane ≡ false
 lane_stays old new lane e free other more =
     let s = state_of old in
     let n = same_count (machine old) s e in
@@ -246,15 +233,15 @@ abbrev taker : Event → ℕ
 taker (Take i k) = i
 taker _ = 0
 
-from_not : (b : Bool) → not b ≡ true → b ≡ false
+pub from_not : (b : Bool) → not b ≡ true → b ≡ false
 from_not true h = absurd (false≢true h)
 from_not false h = refl
 
 lane_was_free : (sys : System) (s : State) (i k : ℕ) → IsTrue (row_admits sys s (Take i k)) → has_work_out s k ≡ false
 lane_was_free sys s i k row = from_not (has_work_out s k) (and_parts _ _ (and_parts _ _ (and_parts _ _ (and_parts _ _ (and_parts _ _ (and_parts _ _ row).1).0).0).0).0).1
 
-record HasOneEach (s : State) : Type 0 where
-  one : (k i j : ℕ) → i < worker_count s → j < worker_count s → is_out_with s k i ≡ true → is_out_with s k j ≡ true → i ≡ j
+pub record HasOneEach (s : State) : Type 0 where
+  pub one : (k i j : ℕ) → i < worker_count s → j < worker_count s → is_out_with s k i ≡ true → is_out_with s k j ≡ true → i ≡ j
 
 one_kept : (sys : System) (s : State) (e : Event) → IsTrue (row_admits sys s e) → HasOneEach s → HasOneEach (state_after sys s e)
 one_kept sys s e row p = record { one = λ k i j li lj a b. go k i j (below i li) (below j lj) a b (cases_Bool (touches i e)) (cases_Bool (touches j e)) }
@@ -302,27 +289,30 @@ one_kept sys s e row p = record { one = λ k i j li lj a b. go k i j (below i li
 nobody_out : (start : SnapshotParts) → HasOneEach (start_state start)
 nobody_out start = record { one = λ k i j li lj a b. absurd (false≢true (and_parts _ _ a).1) }
 
-one_each : (h : HubValues) → IsHub h → HasOneEach (state_of h)
+pub one_each : (h : HubValues) → IsHub h → HasOneEach (state_of h)
 one_each h hub = kept_along (machine h) HasOneEach (λ s e a p. one_kept (machine h) s e (and_parts _ _ a).1 p) h.journal.events (start_state h.start) hub.legal (nobody_out h.start)
 
-lane_freed : (old new : HubValues) (lane : ℕ) (fresh : Bool) (work : Work) → IsHub old → IsWork old lane fresh work → Appended old (Give work.worker) new → has_work_out (state_of new) lane ≡ false
-lane_freed old new lane fresh work hub w more =
-    let n = same_count (machine old) s (Give work.worker) in
-    ap (λ (q : State). has_work_out q lane) (state_grown old new (Give work.worker) more)
-    ∙ free_from (state_after (machine old) s (Give work.worker)) lane (λ j l. each j (omega (arith, l, n)))
+pub freed : (old new : HubValues) (lane worker place : ℕ) → IsHub old → IsOut (state_of old) lane worker place → Appended old (Give worker) new → has_work_out (state_of new) lane ≡ false
+freed old new lane worker place hub out more =
+    let n = same_count (machine old) s (Give worker) in
+    ap (λ (q : State). has_work_out q lane) (state_grown old new (Give worker) more)
+    ∙ free_from (state_after (machine old) s (Give worker)) lane (λ j l. each j (omega (arith, l, n)))
   where
     s : State
     s = state_of old
 
-    is_out : is_out_with s lane work.worker ≡ true
-    is_out = and_from _ _ w.out.running (ap (λ o. is_by lane o) w.out.by_lane ∙ eq-eqb lane lane refl)
+    is_out : is_out_with s lane worker ≡ true
+    is_out = out_with s lane worker place out
 
-    each : (j : ℕ) → j < worker_count s → is_out_with (state_after (machine old) s (Give work.worker)) lane j ≡ false
-    each j l = elim (cases_eq j work.worker) [
-      | inl e ↦ subst (λ n. is_out_with (state_after (machine old) s (Give work.worker)) lane n ≡ false) (sym e) (giver_out (machine old) s lane work.worker w.out.in_range)
-      | inr n ↦ other_out s (state_after (machine old) s (Give work.worker)) lane j (stays (machine old) s (Give work.worker) j l (ne_eqb j work.worker n))
-          ∙ elim (cases_Bool (is_out_with s lane j)) [ inl t ↦ absurd (n ((one_each old hub).one lane j work.worker l w.out.in_range t is_out)) | inr f ↦ f ]
+    each : (j : ℕ) → j < worker_count s → is_out_with (state_after (machine old) s (Give worker)) lane j ≡ false
+    each j l = elim (cases_eq j worker) [
+      | inl e ↦ subst (λ n. is_out_with (state_after (machine old) s (Give worker)) lane n ≡ false) (sym e) (giver_out (machine old) s lane worker out.in_range)
+      | inr n ↦ other_out s (state_after (machine old) s (Give worker)) lane j (stays (machine old) s (Give worker) j l (ne_eqb j worker n))
+          ∙ elim (cases_Bool (is_out_with s lane j)) [ inl t ↦ absurd (n ((one_each old hub).one lane j worker l out.in_range t is_out)) | inr f ↦ f ]
     ]
+
+lane_freed : (old new : HubValues) (lane : ℕ) (fresh : Bool) (work : Work) → IsHub old → IsWork old lane fresh work → Appended old (Give work.worker) new → has_work_out (state_of new) lane ≡ false
+lane_freed old new lane fresh work hub w more = freed old new lane work.worker work.place hub w.out more
 
 pub lanes_stay : LanesStay
 lanes_stay = (lane_stays, lane_freed)

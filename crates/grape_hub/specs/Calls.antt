@@ -1,18 +1,18 @@
 -- What the calls of a hub answer and leave.
-use Rattle.std.specs.Prelude.{◌≡◌, ℕ, ◌+◌, ◌*◌, ◌≤◌, Bool, false, true, not, MatchBool, map, List, [], ◌∷◌, ◌++◌, Some, None, ⊤, length, take, reverse}
+use Rattle.std.specs.Prelude.{◌≡◌, ℕ, ◌+◌, ◌*◌, ◌<◌, ◌≤◌, Bool, false, true, not, MatchBool, map, List, [], ◌∷◌, ◌++◌, Option, Some, None, ⊤, length, take, reverse, slice_index_or}
 use Rattle.std.specs.List.{AllZip}
 use Rattle.graph_core.specs.declared.job.Job.{Job}
 use Rattle.graph_core.specs.Fragments.{fragment_of, places}
 use Rattle.graph_core.specs.Queries.{equations_of}
 use Rattle.grape_event.specs.declared.event.Event.{Event}
 use Rattle.grape_event.specs.declared.event.Event.TheVariants.{Take, Stretch, Hold, Flag, Ask, Ack, Nack, Seal, End}
-use Rattle.token_cut.specs.Parts.{SnapshotParts}
+use Rattle.token_cut.specs.Parts.{SnapshotParts, part_at}
 use Rattle.token_cut.specs.Shapes.{sizes_of}
 use Rattle.legal_journal.specs.Cuts.{sealed_snapshot}
 use Rattle.grape_event.specs.Events.{is_take}
 use Rattle.pie_core.specs.Locals.{LocalValues}
 use Rattle.pie_core.specs.Solutions.{IsReadyFor, OwnEquationsHold}
-use Rattle.base_machine.specs.Machine.{worker_at, hand_of, values_given}
+use Rattle.base_machine.specs.Machine.{worker_at, is_running, hand_of, values_given}
 use Rattle.legal_journal.specs.Past.{has_ended}
 use Rattle.legal_journal.specs.Legal.{is_admitted, stretch_from}
 use Rattle.legal_journal.specs.Choices.{duty_choice}
@@ -158,9 +158,24 @@ pub record MayGive (h : HubValues) (lane : ℕ) (work : Work) : Type 0 where
   pub order : work.hand.order ≡ (machine h).equations.order
   pub sizes : HasSizes (piece_of_worker h work.worker) h.counters work.local.before work.local.counters work.hand.values
 
--- each Local has its worker's values
+-- Each Local has its worker's values, where the worker isn't out.
 abbrev pub HaveValues : HubValues → List LocalValues → Type 0
-HaveValues h locals = AllZip (λ local w. local.values ≡ w.values) locals (workers_of h)
+HaveValues h locals = AllZip (λ local w. is_running w ≡ false → local.values ≡ w.values) locals (workers_of h)
+
+-- A worker that is out gave its Work up, and its Local has the values of the start.
+abbrev pub HaveStartValues : HubValues → List LocalValues → Type 0
+HaveStartValues h locals = (i : ℕ) (d : LocalValues) → i < length (workers_of h) → is_running (worker_at (workers_of h) i) ≡ true → (slice_index_or locals i d).values ≡ (part_at i h.start.parts).values
+
+-- a Local with the values of a worker's start, and with its sizes
+pub record IsGivenUp (h : HubValues) (i : ℕ) (local : LocalValues) : Type 0 where
+  pub values : local.values ≡ (part_at i h.start.parts).values
+  pub owned : length local.before ≡ length (piece_of_worker h i).owned
+  pub counters : length local.counters ≡ length (piece_of_worker h i).owned * h.counters
+
+-- There is such a Local of each worker that is out.
+pub record AreGivenUp (h : HubValues) (given : List (Option LocalValues)) : Type 0 where
+  pub count : length given ≡ length (workers_of h)
+  pub each : (i : ℕ) → i < length (workers_of h) → is_running (worker_at (workers_of h) i) ≡ true → (local : LocalValues) × (slice_index_or given i None ≡ Some local) × IsGivenUp h i local
 
 -- each Local has the sizes of its worker's fragment, and of the program's counters
 abbrev pub HaveSizes : HubValues → List LocalValues → Type 0

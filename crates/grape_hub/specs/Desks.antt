@@ -1,5 +1,5 @@
 -- What the hub keeps of a worker, against the state after its journal.
-use Rattle.std.specs.Prelude.{◌≡◌, ℕ, ◌+◌, ◌*◌, ◌<◌, ◌≤◌, ◌++◌, Bool, IsTrue, true, false, not, ◌&&◌, ◌||◌, max, nat_lt, List, [], ◌∷◌, Option, Some, None, ⊤, map, filter, flat_map, length, take, slice_get, slice_index, slice_index_or, if◌then◌else◌}
+use Rattle.std.specs.Prelude.{◌≡◌, ℕ, ◌+◌, ◌*◌, ◌<◌, ◌≤◌, ◌++◌, Bool, IsTrue, true, false, not, ◌&&◌, ◌||◌, max, nat_lt, List, [], ◌∷◌, Option, Some, None, IsSome, ⊤, map, filter, flat_map, length, take, slice_get, slice_index, slice_index_or, if◌then◌else◌}
 use Rattle.std.specs.List.{list_any}
 use Rattle.graph_core.specs.declared.fragment.Route.{Route}
 use Rattle.graph_core.specs.Fragments.{Piece, piece_at, places, numbers_below}
@@ -157,25 +157,29 @@ with_arrival sender d =
 
 -- ---- where the values are
 
-abbrev pub IsHere : Seat → Type 0
-IsHere (Here fresh local hand) = ⊤
-IsHere (Out lane place) = ⊥
+-- the values are here, or they were given up
+abbrev pub IsHereOr : Seat → Option LocalValues → Type 0
+IsHereOr (Here fresh local hand) given = ⊤
+IsHereOr (Out lane place) given = IsSome given
 
--- the values that are here
-abbrev pub HasLocal : Seat → LocalValues → Type 0
-HasLocal (Here fresh local hand) values = values ≡ local
-HasLocal (Out lane place) values = ⊥
+-- the values that are here, or that were given up
+abbrev pub HasLocalOr : Seat → Option LocalValues → LocalValues → Type 0
+HasLocalOr (Here fresh local hand) given values = values ≡ local
+HasLocalOr (Out lane place) given values = given ≡ Some values
 
--- all values are here
-abbrev pub AreHere : List Desk → Type 0
-AreHere [] = ⊤
-AreHere (d ∷ desks) = IsHere d.seat × AreHere desks
+-- all values are here, or were given up
+abbrev pub AreHereOr : List Desk → List (Option LocalValues) → Type 0
+AreHereOr [] [] = ⊤
+AreHereOr [] (g ∷ given) = ⊥
+AreHereOr (d ∷ desks) [] = ⊥
+AreHereOr (d ∷ desks) (g ∷ given) = IsHereOr d.seat g × AreHereOr desks given
 
-abbrev pub HaveLocals : List Desk → List LocalValues → Type 0
-HaveLocals [] [] = ⊤
-HaveLocals [] (local ∷ locals) = ⊥
-HaveLocals (d ∷ desks) [] = ⊥
-HaveLocals (d ∷ desks) (local ∷ locals) = HasLocal d.seat local × HaveLocals desks locals
+abbrev pub HaveLocalsOr : List Desk → List (Option LocalValues) → List LocalValues → Type 0
+HaveLocalsOr [] given [] = ⊤
+HaveLocalsOr [] given (local ∷ locals) = ⊥
+HaveLocalsOr (d ∷ desks) [] locals = ⊥
+HaveLocalsOr (d ∷ desks) (g ∷ given) [] = ⊥
+HaveLocalsOr (d ∷ desks) (g ∷ given) (local ∷ locals) = HasLocalOr d.seat g local × HaveLocalsOr desks given locals
 
 -- the values are here, and the hand fits the buffer
 abbrev pub HandFits : Desk → Seat → Type 0

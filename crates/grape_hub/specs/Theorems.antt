@@ -1,5 +1,5 @@
 -- The laws of hubs, as statements.
-use Rattle.std.specs.Prelude.{◌≡◌, ℕ, Bool, ◌<◌, ◌≤◌, ◌+◌, ◌*◌, false, IsTrue, List, None, [], ◌∷◌, ◌++◌, Some, length, reverse, slice_index, Contains}
+use Rattle.std.specs.Prelude.{◌≡◌, ℕ, Bool, true, ◌<◌, ◌≤◌, ◌+◌, ◌*◌, false, IsTrue, List, None, [], ◌∷◌, ◌++◌, Some, length, reverse, slice_index, Contains}
 use Rattle.graph_core.specs.declared.job.Job.{Job}
 use Rattle.graph_core.specs.Graphs.{IsJob}
 use Rattle.graph_core.specs.Equations.{Assignment, Equations, IsGreatest}
@@ -27,6 +27,8 @@ use Rattle.grape_hub.specs.declared.work.Work.{Work}
 use Rattle.grape_hub.specs.Calls.{Appended, IsWork, IsReady, MayGive}
 use Rattle.grape_hub.specs.States.{machine, state_of, workers_of, sealed_epoch, IsHub}
 use Rattle.grape_hub.specs.Choices.{MayChoose}
+use Rattle.grape_hub.specs.LanedHub.{LanedHub, lane_at, is_out_at, IsLanedHub}
+use Rattle.grape_hub.specs.Notes.{ground_of, ground_in, calls_in, answer_in, note_of, HasNoWork}
 
 -- nobody is out
 abbrev pub IsCalm : HubValues → Type 0
@@ -135,3 +137,38 @@ abbrev pub LanesStay : Type 0
 LanesStay =
     ((old new : HubValues) (lane : ℕ) (e : Event) → has_work_out (state_of old) lane ≡ false → ((i : ℕ) → e ≡ Take i lane → ⊥) → Appended old e new → has_work_out (state_of new) lane ≡ false)
     × ((old new : HubValues) (lane : ℕ) (fresh : Bool) (work : Work) → IsHub old → IsWork old lane fresh work → Appended old (Give work.worker) new → has_work_out (state_of new) lane ≡ false)
+
+-- ---- what notes tell
+
+-- Jobs and starts with one ground are equal.
+abbrev pub GroundsTell : Type 0
+GroundsTell = (job other : Job) (start begun : SnapshotParts) → ground_of job start ≡ ground_of other begun → (job ≡ other) × (start ≡ begun)
+
+-- A note begins with the ground of the hub's job and start.
+abbrev pub NotesBegin : Type 0
+NotesBegin = (x : LanedHub) (k : ℕ) → ground_in (note_of x k) ≡ ground_of x.hub.job x.hub.start
+
+-- No Work stands in a lane's note exactly where the lane has none out.
+abbrev pub EmptyIsFree : Type 0
+EmptyIsFree =
+    (x : LanedHub) (k : ℕ) → IsLanedHub x → k < x.hub.job.settings.lanes →
+    (HasNoWork (note_of x k) → is_out_at x k ≡ false) × (is_out_at x k ≡ false → HasNoWork (note_of x k))
+
+-- A lane's note has its record.
+abbrev pub RecordsTell : Type 0
+RecordsTell =
+    (x : LanedHub) (k : ℕ) → IsLanedHub x → k < x.hub.job.settings.lanes →
+    (calls_in (note_of x k) ≡ (lane_at x k).calls) × (1 ≤ (lane_at x k).calls → answer_in (note_of x k) ≡ (lane_at x k).answer)
+
+-- What a lane may give back to one hub it may give back to another that has the same note of it.
+abbrev pub WorksTell : Type 0
+WorksTell =
+    (x y : LanedHub) (k : ℕ) (work : Work) → IsLanedHub x → IsLanedHub y → k < x.hub.job.settings.lanes → note_of x k ≡ note_of y k → x.hub.counters ≡ y.hub.counters →
+    is_out_at x k ≡ true → MayGive x.hub k work → (is_out_at y k ≡ true) × MayGive y.hub k work
+
+-- Where nobody is out no lane has a Work out, and until the journal has ended, nobody is out where no lane has.
+abbrev pub CalmIsEmpty : Type 0
+CalmIsEmpty =
+    (x : LanedHub) → IsLanedHub x →
+    (IsCalm x.hub → (k : ℕ) → is_out_at x k ≡ false)
+    × (has_ended (reverse x.hub.journal.events) ≡ false → ((k : ℕ) → k < x.hub.job.settings.lanes → is_out_at x k ≡ false) → IsCalm x.hub)

@@ -2,7 +2,7 @@ ghost use Rattle.std.specs.Prelude.{◌≡◌, ◌≤◌, [], length, map};
 ghost use Rattle.std.specs.Vec.{vec_capacity};
 ghost use Rattle.message_buffer.specs.Buffers.{batches_in};
 ghost use Rattle.legal_journal.specs.Delays.{stretch_turns};
-ghost use Rattle.grape_hub.specs.Desks.{AreHere, HandFits, IsHere, HasLocal, HaveLocals, TakesFrom, is_out, is_fresh_at, rests_at, has_mail, is_busy_at, with_arrival, rested_desk, folded_desk, MayRecord, Records};
+ghost use Rattle.grape_hub.specs.Desks.{HandFits, IsHereOr, HasLocalOr, AreHereOr, HaveLocalsOr, TakesFrom, is_out, is_fresh_at, rests_at, has_mail, is_busy_at, with_arrival, rested_desk, folded_desk, MayRecord, Records};
 ghost use Rattle.grape_hub.specs.Posting.{CanReceive};
 
 use crate::sender::Sender;
@@ -171,10 +171,10 @@ impl Desk {
         };
     }
 
-    /// The values of the worker, which are here.
-    pub fn into_local(self) -> Local
-        requires { IsHere self.seat }
-        ensures { HasLocal self.seat result }
+    /// The values of the worker where they are here, and else those that were given up.
+    pub fn into_local(self, given_up: Option<Local>) -> Local
+        requires { IsHereOr self.seat given_up }
+        ensures { HasLocalOr self.seat given_up result }
     {
         let Desk {
             seat,
@@ -190,21 +190,22 @@ impl Desk {
                 local,
                 hand: _hand,
             } => local,
-            Seat::Out { .. } => unreachable!(),
+            Seat::Out { .. } => given_up.unwrap(),
         }
     }
 }
 
-/// The values of each worker, in order, in an empty list that has room for them. Nobody is out.
-pub fn into_locals(desks: Vec<Desk>, empty: Vec<Local>) -> Vec<Local>
-    requires here { AreHere desks.items }
+/// A Local of each worker, in order, in an empty list that has room for them: its values where they are here, and else
+/// those that were given up.
+pub fn into_locals(desks: Vec<Desk>, given_up: Vec<Option<Local>>, empty: Vec<Local>) -> Vec<Local>
+    requires here { AreHereOr desks.items given_up.items }
     requires empty { empty.items ≡ [] }
     requires room { length desks.items ≤ vec_capacity empty }
-    ensures { HaveLocals desks.items result.items }
+    ensures { HaveLocalsOr desks.items given_up.items result.items }
 {
     let mut locals = empty;
-    'desks: for desk in desks {
-        locals.push_reserved(desk.into_local());
+    'desks: for (desk, given) in desks.into_iter().zip(given_up) {
+        locals.push_reserved(desk.into_local(given));
     }
     locals
 }

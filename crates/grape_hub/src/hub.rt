@@ -1,40 +1,29 @@
-ghost use Rattle.std.specs.Prelude.{◌≡◌, ◌&&◌, not, ◌+◌, ◌<◌, ◌≤◌, [], None, true, false, nat_lt, if◌then◌else◌, count_by, reverse, IfOk, IfSome, OnOk, OnErr};
+ghost use Rattle.std.specs.Prelude.{◌≡◌, ◌≢◌, ℕ, ◌<◌, ◌≤◌, None, true, false, length, reverse, replicate, IfOk};
 ghost use Rattle.graph_core.specs.Graphs.{IsJob};
 ghost use Rattle.graph_core.specs.Fragments.{fragments_of};
-ghost use Rattle.grape_event.specs.declared.event.Event.TheVariants.{Take, Give, Begin, Mark, Seal, Kept, Stop};
-ghost use Rattle.base_machine.specs.Machine.{worker_at, is_running, system_of};
+ghost use Rattle.grape_event.specs.declared.event.Event.TheVariants.{Give, Kept, Stop};
+ghost use Rattle.grape_event.specs.declared.event.StopCause.TheVariants.{Memory};
+ghost use Rattle.pie_core.specs.LocalCalls.{loaded};
+ghost use Rattle.base_machine.specs.Machine.{system_of};
 ghost use Rattle.base_machine.specs.Fitness.{IsInForm};
 ghost use Rattle.legal_journal.specs.Past.{has_ended};
-ghost use Rattle.legal_journal.specs.Legal.{has_work_out, is_admitted};
-ghost use Rattle.legal_journal.specs.Choices.{duty_choice};
-ghost use Rattle.grape_hub.specs.States.{machine, state_of, workers_of, sealed_epoch, events_owed, IsHub};
-ghost use Rattle.grape_hub.specs.Choices.{IsChoice};
-ghost use Rattle.grape_hub.specs.Calls.{Appended, AppendedUnlessEnded, Unchanged, Begins, Chooses, ChoosesDuty, TakesWorker, MayStretch, StretchesWorker, IsNote, NotesEvent, NotesDuty, SealsEpoch, WritesSealed, HasSizesOf, MayKeep, ReadyWhereTook, MayGive, HaveValues, HaveSizes};
-ghost use Rattle.grape_hub.specs.Theorems.{IsCalm};
-ghost use Rattle.grape_hub.specs.Desks.{is_out};
+ghost use Rattle.grape_hub.specs.States.{state_of, sealed_epoch};
+ghost use Rattle.grape_hub.specs.LanedHub.{IsLanedHub, is_out_at, new_lanes, lanes_after_answer, lanes_after_give};
+ghost use Rattle.grape_hub.specs.Notes.{ground_of, note_of, OthersStay};
+ghost use Rattle.grape_hub.specs.Calls.{AppendedUnlessEnded, Begins, Chooses, ChoosesDuty, WritesSealed, HasSizesOf, MayKeep, ReadyWhereTook, MayGive, HaveValues, HaveStartValues, HaveSizes};
 
-use crate::choice::{first_of_kinds, least_round};
-use crate::counts::Counts;
-use crate::desk::{Delay, Desk, fold_mail, into_locals};
-use crate::hearing::hear;
-use crate::kind::Kind;
-use crate::open::{cut_of, desks_of, routes_of};
-use crate::posting::{carry_token, post_changes};
-use crate::sender::Sender;
-use crate::sight::Sight;
+use crate::engine::Engine;
+use crate::lane_record::LaneRecord;
 use crate::work::{Duty, Next, Work};
 use delay_stretch::Pacer;
-use grape_event::{Event, Journal, StopCause};
+use grape_event::{Journal, StopCause};
 use grape_port::NoMemory;
-use graph_core::{Fragment, Job, Route, Rows};
+use graph_core::{Fragment, Job};
+use noted_lock::Noted;
 use pie_core::{Local, Pie};
 use std::alloc::Global;
 use std::marker::Model;
-use stop_probe::Probe;
-use token_cut::{CutState, Snapshot};
-
-/// How many turns a pacer adds to a Stretch at most.
-const MOST_EXTRA: u32 = 64;
+use token_cut::Snapshot;
 
 /// The workers of a job, one for each fragment, with their values and mail, and the journal of what they did.
 ///
@@ -43,47 +32,41 @@ const MOST_EXTRA: u32 = 64;
 /// mail gather before, and a pacer of its own may add to that. Once all workers rest, a probe asks each of them whether
 /// the run may end. Every so many Takes a snapshot is due: a recording opens, each worker is marked in it, and once all
 /// are it is sealed. The start and the journal determine all that the hub holds but its pacers. Contracts see the job,
-/// the start, the journal and the sizes that the program asks for.
+/// the start, the journal, the sizes that the program asks for, and for each lane what [`Hub::next`] answered it last
+/// and whether it has a Work out.
+///
+/// Each lane, and the coordinator, has a note in the hub: the job and the start, and then what is its own. A call of one
+/// lane leaves the notes of all others.
 #[derive(Drop)]
 pub struct Hub<P: Pie, Q: Pacer> {
-    program: P,
-    job: Job,
-    routes: Vec<Rows<Route>>,
-    desks: Vec<Desk>,
-    pacers: Vec<Q>,
-    probe: Probe,
-    cut: CutState,
-    counts: Counts,
-    journal: Journal,
-    turn: u32,
-    start: Snapshot,
-    /// Empty, with room for a Local of each worker, so that the end takes no memory.
-    locals: Vec<Local>,
+    engine: Engine<P, Q>,
+    lanes: Vec<LaneRecord>,
+    /// A Local of each worker whose Work was given after the journal's end.
+    given_up: Vec<Option<Local>>,
 }
 
 impl<P: Pie, Q: Pacer> Model for Hub<P, Q> {
-    ghost use Rattle.std.specs.Prelude.{◌≡◌, ◌≤◌, [], length};
-    ghost use Rattle.std.specs.Vec.{vec_capacity};
-    ghost use Rattle.grape_hub.specs.HubValues.{HubValues};
-    ghost use Rattle.grape_hub.specs.States.{machine, state_of, IsHub};
-    ghost use Rattle.grape_hub.specs.Desks.{TablesFit};
+    ghost use Rattle.grape_hub.specs.LanedHub.{LanedHub, IsLanedHub};
+    ghost use Rattle.grape_hub.specs.GivenUp.{HoldsGivenUp};
 
-    ghost Value = { HubValues };
+    ghost Value = { LanedHub };
 
-    ghost view = { λ h. record { job = h.job; counters = P.counters_for h.job; start = h.start; journal = h.journal } };
+    ghost view = { λ h. record { hub = h.engine; lanes = h.lanes.items } };
 
-    ghost invariant = { λ h. P.is_for h.program h.job
-        × IsHub (record { job = h.job; counters = P.counters_for h.job; start = h.start; journal = h.journal })
-        × TablesFit (machine (record { job = h.job; counters = P.counters_for h.job; start = h.start; journal = h.journal })) (state_of (record { job = h.job; counters = P.counters_for h.job; start = h.start; journal = h.journal })) (P.counters_for h.job)
-        (record { routes = h.routes.items; desks = h.desks.items; probe = h.probe; cut = h.cut; counts = h.counts; turn = h.turn })
-        × (h.locals.items ≡ []) × (length h.desks.items ≤ vec_capacity h.locals) };
+    ghost invariant = { λ h. IsLanedHub (record { hub = h.engine; lanes = h.lanes.items }) × HoldsGivenUp (record { hub = h.engine; lanes = h.lanes.items }) h.given_up.items };
+}
+
+impl<P: Pie, Q: Pacer> Noted for Hub<P, Q> {
+    ghost use Rattle.grape_hub.specs.Notes.{note_of};
+
+    ghost note = { note_of };
 }
 
 impl<P: Pie, Q: Pacer> Hub<P, Q> {
     /// A hub at its start: each worker is as its part of the start has it, and the journal is empty. The program is that of
     /// the job's query, the fragments are the job's, and the start is in the form of the job's snapshots, or fresh. A
     /// worker past the last pacer has none, which adds no turns. The hub keeps a copy of the job and of the fragments'
-    /// routes. After this only the journal takes memory.
+    /// routes. After this only the journal takes memory. All notes are the ground.
     pub fn open(
         alloc: Global,
         program: P,
@@ -96,30 +79,21 @@ impl<P: Pie, Q: Pacer> Hub<P, Q> {
         requires program { P.is_for program job.now }
         requires fragments { fragments.now ≡ fragments_of job.now }
         requires start { IsInForm (system_of job.now) start }
-        ensures beginning { IfOk result (λ hub. Begins job.now (P.counters_for job.now) start hub) }
-        ensures hub { IfOk result (λ hub. IsHub hub) }
+        ensures beginning { IfOk result (λ x. Begins job.now (P.counters_for job.now) start x.hub × (x.lanes ≡ new_lanes job.now.settings.lanes)) }
+        ensures notes { IfOk result (λ x. (k : ℕ) → note_of x k ≡ ground_of job.now start) }
+        ensures hub { IfOk result (λ x. IsLanedHub x) }
     {
-        let order = program.order();
-        let counters = program.counters();
-        let mut journal = Journal::new(alloc);
-        journal.reserve(1)?;
+        let none = LaneRecord {
+            calls: 0,
+            answer: 0,
+            length: 0,
+            out: false,
+        };
+        let lanes = vec![in alloc; none; job.settings.lanes as usize]?;
         Ok(Hub {
-            routes: routes_of(alloc, fragments)?,
-            desks: desks_of(alloc, fragments, &start, order, counters)?,
-            cut: cut_of(alloc, job, fragments, order)?,
-            counts: Counts {
-                epoch: start.epoch,
-                takes: 0,
-                sealed: None,
-            },
-            job: job.copy(alloc)?,
-            program,
-            pacers,
-            probe: Probe::new(job.settings.fragments),
-            journal,
-            turn: 0,
-            start,
-            locals: Vec::with_capacity(alloc, fragments.len())?,
+            given_up: nothing_given(alloc, fragments.len())?,
+            engine: Engine::open(alloc, program, job, fragments, pacers, start)?,
+            lanes,
         })
     }
 
@@ -129,28 +103,24 @@ impl<P: Pie, Q: Pacer> Hub<P, Q> {
     /// while a snapshot is due nobody takes. `Idle` comes exactly where none is admitted and the journal hasn't ended, and
     /// `Ended` where it has. The lane has no Work out. Room for the event, for a Give of each worker that is out, for the
     /// Kept of a sealed snapshot and for a Stop is made first; then the worker's pacer is asked, once for each Stretch.
+    /// Each answer is recorded for the lane; NoMemory changes nothing else.
     pub fn next(&mut self, lane: u32) -> Next
-        requires lane { lane < self.old.job.settings.lanes }
-        requires free { has_work_out (state_of self.old) lane ≡ false }
-        ensures chosen { Chooses self.old lane result self.new }
-        ensures ready { ReadyWhereTook self.new result }
-        ensures hub { IsHub self.new }
+        requires lane { lane < self.old.hub.job.settings.lanes }
+        requires free { is_out_at self.old lane ≡ false }
+        ensures chosen { Chooses self.old.hub lane result self.new.hub }
+        ensures ready { ReadyWhereTook self.new.hub result }
+        ensures record { self.new.lanes ≡ lanes_after_answer self.old lane result self.new.hub }
+        ensures others { OthersStay self.old lane self.new }
+        ensures hub { IsLanedHub self.new }
     {
-        if self.journal.ended() {
-            return Next::Ended;
-        }
-        let Some((kind, worker)) = self.choice(lane) else {
-            return Next::Idle;
+        let answer = if self.engine.journal().ended() {
+            Next::Ended
+        } else {
+            self.engine.next(lane)
         };
-        match kind {
-            Kind::Mark => self.mark(worker),
-            Kind::Take => self.take(worker, lane),
-            Kind::Stretch => self.stretch(worker),
-            Kind::Ack => self.did(Event::Ack { worker }),
-            Kind::Nack => self.did(Event::Nack { worker }),
-            Kind::Flag => self.did(Event::Flag { worker }),
-            Kind::Hold => self.did(Event::Hold { worker }),
-        }
+        let long = self.engine.journal().len();
+        self.lanes[lane as usize].answered(&answer, long);
+        answer
     }
 
     /// Appends the first admitted event of Seal, End, Begin and Ask. `Sealed` comes where it is a Seal, and the snapshot of
@@ -158,345 +128,115 @@ impl<P: Pie, Q: Pacer> Hub<P, Q> {
     /// `Ended` where it has. Nothing is sealed and not kept, and `into` has the sizes of the job's snapshots. Room for the
     /// event, for a Give of each worker that is out, for a Kept after a Seal and for a Stop is made first.
     pub fn duty(&mut self, into: &mut Snapshot) -> Duty
-        requires kept { sealed_epoch (state_of self.old).past ≡ None }
-        requires sizes { HasSizesOf self.old into.old }
-        ensures chosen { ChoosesDuty self.old result self.new }
-        ensures written { WritesSealed result self.new into.old into.new }
-        ensures hub { IsHub self.new }
+        requires kept { sealed_epoch (state_of self.old.hub).past ≡ None }
+        requires sizes { HasSizesOf self.old.hub into.old }
+        ensures chosen { ChoosesDuty self.old.hub result self.new.hub }
+        ensures written { WritesSealed result self.new.hub into.old into.new }
+        ensures lanes { self.new.lanes ≡ self.old.lanes }
+        ensures others { OthersStay self.old self.old.hub.job.settings.lanes self.new }
+        ensures hub { IsLanedHub self.new }
     {
-        if self.journal.ended() {
-            return Duty::Ended;
-        }
-        let Some(event) = self.duty_event() else {
-            return Duty::Nothing;
-        };
-        match event {
-            Event::Seal { epoch } => self.seal(epoch, into),
-            Event::Begin { epoch } => self.begin(epoch),
-            _ => match self.note(event) {
-                Ok(()) => Duty::Did(event),
-                Err(NoMemory) => Duty::NoMemory,
-            },
-        }
+        self.engine.duty(into)
     }
 
     /// Appends the Kept of the epoch that is sealed and not kept yet, where the journal hasn't ended. Takes no memory.
     pub fn kept(&mut self, epoch: u64)
-        requires { MayKeep self.old epoch }
-        ensures kept { AppendedUnlessEnded self.old (Kept epoch) self.new }
-        ensures hub { IsHub self.new }
+        requires { MayKeep self.old.hub epoch }
+        ensures kept { AppendedUnlessEnded self.old.hub (Kept epoch) self.new.hub }
+        ensures lanes { self.new.lanes ≡ self.old.lanes }
+        ensures others { OthersStay self.old self.old.hub.job.settings.lanes self.new }
+        ensures hub { IsLanedHub self.new }
     {
-        if self.journal.ended() {
-            return;
-        }
-        self.journal.push(Event::Kept { epoch });
-        self.counts.sealed = None;
+        self.engine.kept(epoch);
     }
 
-    /// Appends a Stop, where the journal hasn't ended. Takes no memory.
+    /// Appends a Stop, where the journal hasn't ended. Takes no memory. Only that of the cause `Disk` is in a note, that of
+    /// the coordinator.
     pub fn stop(&mut self, cause: StopCause)
-        ensures stopped { AppendedUnlessEnded self.old (Stop cause) self.new }
-        ensures hub { IsHub self.new }
+        ensures stopped { AppendedUnlessEnded self.old.hub (Stop cause) self.new.hub }
+        ensures lanes { self.new.lanes ≡ self.old.lanes }
+        ensures others { OthersStay self.old self.old.hub.job.settings.lanes self.new }
+        ensures memory { cause ≡ Memory → (k : ℕ) → note_of self.new k ≡ note_of self.old k }
+        ensures hub { IsLanedHub self.new }
     {
-        if self.journal.ended() {
-            return;
-        }
-        self.journal.push(Event::Stop { cause });
-    }
-
-    /// The kind and the worker of the lane's choice, where there is one.
-    fn choice(&self, lane: u32) -> Option<(Kind, u32)>
-        requires lane { lane < self.now.job.settings.lanes }
-        requires free { has_work_out (state_of self.now) lane ≡ false }
-        requires going { has_ended (reverse self.now.journal.events) ≡ false }
-        ensures choice { IsChoice (machine self.now) (state_of self.now) lane result }
-        ensures hub { IsHub self.now }
-    {
-        let sight = Sight {
-            policy: self.job.settings.policy,
-            clock: self.journal.len(),
-            least: least_round(&self.desks),
-            due: self.counts.is_due(self.job.settings.snapshot),
-        };
-        first_of_kinds(
-            &sight,
-            &self.probe,
-            &self.cut,
-            &self.desks,
-            self.turn as usize,
-        )
-    }
-
-    /// The coordinator's choice.
-    fn duty_event(&self) -> Option<Event>
-        requires kept { sealed_epoch (state_of self.now).past ≡ None }
-        requires going { has_ended (reverse self.now.journal.events) ≡ false }
-        ensures choice { duty_choice (machine self.now) (state_of self.now) ≡ result }
-        ensures hub { IsHub self.now }
-    {
-        if self.cut.complete() {
-            return Some(Event::Seal {
-                epoch: self.counts.epoch,
-            });
-        }
-        let recording = self.cut.recording();
-        if may_once_closed(recording, self.probe.may_end()) {
-            return Some(Event::End);
-        }
-        let due = self.counts.is_due(self.job.settings.snapshot);
-        if may_once_closed(recording, due) {
-            return Some(Event::Begin {
-                epoch: self.counts.epoch + 1,
-            });
-        }
-        if self.probe.may_ask() {
-            return Some(Event::Ask);
-        }
-        None
-    }
-
-    /// Appends the Mark of a worker that isn't out, and records its phase, its values and its untagged mail.
-    fn mark(&mut self, worker: u32) -> Next
-        requires admitted { is_admitted (machine self.old) (state_of self.old) (Mark worker) ≡ true }
-        ensures did { NotesEvent self.old (Mark worker) result self.new }
-        ensures hub { IsHub self.new }
-    {
-        let room = self.room_owed(1);
-        if self.journal.reserve(room).is_err() {
-            return Next::NoMemory;
-        }
-        self.desks[worker as usize].record(worker, &mut self.cut);
-        let event = Event::Mark { worker };
-        self.journal.push(event);
-        Next::Did(event)
-    }
-
-    /// Appends the Begin of a snapshot: a recording opens, in which nobody is marked.
-    fn begin(&mut self, epoch: u64) -> Duty
-        requires admitted { is_admitted (machine self.old) (state_of self.old) (Begin epoch) ≡ true }
-        ensures begun { NotesDuty self.old (Begin epoch) result self.new }
-        ensures hub { IsHub self.new }
-    {
-        let room = self.room_owed(1);
-        if self.journal.reserve(room).is_err() {
-            return Duty::NoMemory;
-        }
-        self.cut.begin(epoch);
-        self.counts.epoch = epoch;
-        self.counts.takes = 0;
-        let event = Event::Begin { epoch };
-        self.journal.push(event);
-        Duty::Did(event)
-    }
-
-    /// Appends the Seal of a recording in which every worker is marked, and writes the snapshot. All tokens fall.
-    fn seal(&mut self, epoch: u64, into: &mut Snapshot) -> Duty
-        requires kept { sealed_epoch (state_of self.old).past ≡ None }
-        requires admitted { is_admitted (machine self.old) (state_of self.old) (Seal epoch) ≡ true }
-        requires sizes { HasSizesOf self.old into.old }
-        ensures sealed { SealsEpoch self.old epoch result self.new }
-        ensures written { WritesSealed result self.new into.old into.new }
-        ensures hub { IsHub self.new }
-    {
-        let room = self.room_owed(2);
-        if self.journal.reserve(room).is_err() {
-            return Duty::NoMemory;
-        }
-        self.cut.seal(into);
-        fold_mail(&mut self.desks);
-        self.counts.sealed = Some(epoch);
-        self.journal.push(Event::Seal { epoch });
-        Duty::Sealed(epoch)
-    }
-
-    /// The room for so many events, for a Give of each worker that is out, for a Kept that is awaited and for a Stop.
-    fn room_owed(&self, events: u64) -> u64
-        requires { events ≤ 2 }
-        ensures room { result ≡ events_owed (state_of self.now) + events }
-        ensures hub { IsHub self.now }
-    {
-        works_out(&self.desks) + self.counts.kepts_owed() + 1 + events
-    }
-
-    /// Appends the Take of a worker that isn't out.
-    fn take(&mut self, worker: u32, lane: u32) -> Next
-        requires admitted { is_admitted (machine self.old) (state_of self.old) (Take worker lane) ≡ true }
-        requires idle { is_running (worker_at (workers_of self.old) worker) ≡ false }
-        ensures taken { TakesWorker self.old worker lane result self.new }
-        ensures hub { IsHub self.new }
-    {
-        let count = self.desks.len();
-        let room = self.room_owed(2);
-        if self.journal.reserve(room).is_err() {
-            return Next::NoMemory;
-        }
-        let place = self.journal.len();
-        let (fresh, local, hand) = self.desks[worker as usize].take(lane, place);
-        let event = Event::Take { worker, lane };
-        hear(&mut self.probe, event);
-        self.journal.push(event);
-        self.turn = following(worker, count);
-        self.counts.takes += 1;
-        Next::Took(Work {
-            worker,
-            place,
-            fresh,
-            local,
-            hand,
-        })
-    }
-
-    /// Appends a Stretch of a worker, of the least turns and what its pacer adds.
-    fn stretch(&mut self, worker: u32) -> Next
-        requires admitted { MayStretch self.old worker }
-        ensures stretched { StretchesWorker self.old worker result self.new }
-        ensures hub { IsHub self.new }
-    {
-        let room = self.room_owed(1);
-        if self.journal.reserve(room).is_err() {
-            return Next::NoMemory;
-        }
-        let place = self.journal.len();
-        let policy = self.job.settings.policy;
-        let desk = &self.desks[worker as usize];
-        let least = desk.least_turns(&policy);
-        let waiting = desk.buffer.waiting();
-        let turns = least + extra_of(&mut self.pacers, worker, waiting);
-        self.desks[worker as usize].delay = Some(Delay { turns, place });
-        let event = Event::Stretch { worker, turns };
-        self.journal.push(event);
-        Next::Did(event)
-    }
-
-    /// Appends an event that only the probe hears of, for a lane.
-    fn did(&mut self, event: Event) -> Next
-        requires note { IsNote event }
-        requires admitted { is_admitted (machine self.old) (state_of self.old) event ≡ true }
-        ensures did { NotesEvent self.old event result self.new }
-        ensures hub { IsHub self.new }
-    {
-        match self.note(event) {
-            Ok(()) => Next::Did(event),
-            Err(NoMemory) => Next::NoMemory,
-        }
-    }
-
-    /// Appends an event that changes no worker, and that only the probe hears of.
-    fn note(&mut self, event: Event) -> Result<(), NoMemory>
-        requires note { IsNote event }
-        requires admitted { is_admitted (machine self.old) (state_of self.old) event ≡ true }
-        ensures noted { OnOk result (Appended self.old event self.new) }
-        ensures no_memory { OnErr result (Unchanged self.old self.new) }
-        ensures hub { IsHub self.new }
-    {
-        let room = self.room_owed(1);
-        self.journal.reserve(room)?;
-        hear(&mut self.probe, event);
-        self.journal.push(event);
-        Ok(())
+        self.engine.stop(cause);
     }
 
     /// Appends the Give of the Work that the lane has out, and sends each owned value that became lower along its routes.
     /// The values are the local solution of those at the Take lowered by the hand. While a recording is open the batches of
     /// a marked worker carry its token, and those of another lower what is recorded of marked workers. Where the journal
-    /// has ended nothing is appended, and the values are given up. Takes no memory.
+    /// has ended nothing is appended, and the values are given up. The lane has no Work out then. Takes no memory.
     pub fn give(&mut self, lane: u32, work: Work)
-        requires { MayGive self.old lane work }
-        ensures given { AppendedUnlessEnded self.old (Give work.worker) self.new }
-        ensures hub { IsHub self.new }
+        requires out { is_out_at self.old lane ≡ true }
+        requires work { MayGive self.old.hub lane work }
+        ensures given { AppendedUnlessEnded self.old.hub (Give work.worker) self.new.hub }
+        ensures record { self.new.lanes ≡ lanes_after_give self.old lane }
+        ensures others { OthersStay self.old lane self.new }
+        ensures hub { IsLanedHub self.new }
     {
-        if self.journal.ended() {
-            return;
+        self.lanes[lane as usize].out = false;
+        if self.engine.journal().ended() {
+            let Work { worker, local, .. } = work;
+            let start = self.engine.start_values(worker);
+            self.given_up[worker as usize] = Some(restarted(local, start));
+        } else {
+            self.engine.give(lane, work);
         }
-        let Work {
-            worker,
-            mut local,
-            hand,
-            ..
-        } = work;
-        let index = worker as usize;
-        let place = self.journal.len();
-        self.journal.push(Event::Give { worker });
-        let round = self.desks[index].round + 1;
-        let tagged = carry_token(&self.cut, worker);
-        let sender = Sender {
-            place,
-            round,
-            tagged,
-        };
-        let routes = &self.routes[index];
-        post_changes(sender, routes, &local, &mut self.desks, &mut self.cut);
-        local.settle();
-        self.desks[index].rest(round, local, hand);
     }
 
     /// The journal so far.
     pub fn journal(&self) -> &Journal
-        ensures journal { result.now ≡ self.now.journal }
-        ensures hub { IsHub self.now }
+        ensures journal { result.now ≡ self.now.hub.journal }
+        ensures hub { IsLanedHub self.now }
     {
-        &self.journal
+        self.engine.journal()
     }
 
-    /// The values of each worker, in order, with its sizes, the journal, and the start. The journal has ended, and nobody is out.
+    /// What always holds of a hub.
+    pub fn stands(&self)
+        ensures hub { IsLanedHub self.now }
+        ensures counters { self.now.hub.counters ≡ P.counters_for self.now.hub.job }
+    {
+        self.engine.stands();
+    }
+
+    /// The values of each worker, in order, with its sizes, the journal, and the start. The journal has ended, and no lane has
+    /// a Work out. Where a Work was given after the end, its worker's Local has the values of the start.
     pub fn finish(self) -> (Vec<Local>, Journal, Snapshot)
-        requires ended { has_ended (reverse self.journal.events) ≡ true }
-        requires calm { IsCalm self }
-        ensures values { HaveValues self result.0.items }
-        ensures sizes { HaveSizes self result.0.items }
-        ensures journal { result.1 ≡ self.journal }
-        ensures start { result.2 ≡ self.start }
+        requires ended { has_ended (reverse self.hub.journal.events) ≡ true }
+        requires free { (k : ℕ) → k < self.hub.job.settings.lanes → is_out_at self k ≡ false }
+        ensures values { HaveValues self.hub result.0.items }
+        ensures given_up { HaveStartValues self.hub result.0.items }
+        ensures sizes { HaveSizes self.hub result.0.items }
+        ensures journal { result.1 ≡ self.hub.journal }
+        ensures start { result.2 ≡ self.hub.start }
     {
         let Hub {
-            desks,
-            journal,
-            start,
-            locals,
+            engine,
+            given_up,
             ..
         } = self;
-        (into_locals(desks, locals), journal, start)
+        engine.finish(given_up)
     }
 }
 
-/// What the pacer of a worker adds to a Stretch: none where it has no pacer.
-fn extra_of<Q: Pacer>(pacers: &mut [Q], worker: u32, waiting: u32) -> u32
-    ensures { result ≤ 64 }
+/// No Local for each of so many workers.
+fn nothing_given(alloc: Global, count: usize) -> Result<Vec<Option<Local>>, NoMemory>
+    ensures { IfOk result (λ given. given.items ≡ replicate count None) }
 {
-    match pacers.get_mut(worker as usize) {
-        Some(pacer) => pacer.extra(worker, waiting).min(MOST_EXTRA),
-        None => 0,
+    let mut given = Vec::with_capacity(alloc, count)?;
+    'workers: for _ in 0..count {
+        given.push_reserved(None);
     }
+    Ok(given)
 }
 
-/// Whether an event may come that waits until no recording is open.
-fn may_once_closed(recording: bool, may: bool) -> bool
-    ensures { result ≡ (not recording && may) }
+/// A Local with the values with which its worker started.
+fn restarted(local: Local, start: &[u64]) -> Local
+    requires { length start.now ≡ length local.values }
+    ensures { result ≡ loaded local start.now }
 {
-    !recording && may
-}
-
-/// How many workers are out.
-fn works_out(desks: &[Desk]) -> u64
-    ensures { result ≡ count_by is_out desks.now }
-{
-    let mut count = 0;
-    'desks: for desk in desks {
-        if desk.is_out() {
-            count += 1;
-        }
-    }
-    count
-}
-
-/// The worker after this one, of so many, in turn.
-fn following(worker: u32, count: usize) -> u32
-    requires worker { worker < count }
-    requires few { count ≤ 64 }
-    ensures { result ≡ (if nat_lt (worker + 1) count then worker + 1 else 0) }
-{
-    if (worker as usize) + 1 < count {
-        worker + 1
-    } else {
-        0
-    }
+    let mut local = local;
+    local.load(start);
+    local
 }

@@ -1,6 +1,6 @@
 ghost use Rattle.graph_core.specs.declared.job.Job.{Job};
 ghost use Rattle.graph_core.specs.Graphs.{IsJob};
-ghost use Rattle.grape_hub.specs.Theorems.{NothingIsSealed, WorksMayBeEvaluated, EvaluatedMayBeGiven, CalmIsFree, CalmAtBeginning, CalmAfterTurn, CalmAfterOther, IdleIsQuiet, OneLaneGoesOn, EndIsQuiet, HubsRun, IsConfluent, QuietIsTheAnswer, JournalIsBounded, CutsAreConsistent, SealedMayBeResumed, FreshIsAStart, WorksStay, LanesStay};
+ghost use Rattle.grape_hub.specs.Theorems.{NothingIsSealed, WorksMayBeEvaluated, EvaluatedMayBeGiven, CalmIsFree, CalmAtBeginning, CalmAfterTurn, CalmAfterOther, IdleIsQuiet, OneLaneGoesOn, EndIsQuiet, HubsRun, IsConfluent, QuietIsTheAnswer, JournalIsBounded, CutsAreConsistent, SealedMayBeResumed, FreshIsAStart, WorksStay, LanesStay, GroundsTell, NotesBegin, EmptyIsFree, RecordsTell, WorksTell, CalmIsEmpty};
 
 use pie_core::Pie;
 
@@ -75,4 +75,18 @@ pub fn cuts_are_consistent()
 /// The fresh snapshot of every job is in the form, and is a fit start.
 pub fn fresh_is_a_start()
     ensures { FreshIsAStart }
+{}
+
+/// A note tells the job and the start, the lane's record, and the Work that the lane has out.
+pub fn notes_tell()
+    ensures grounds { GroundsTell }
+    ensures begin { NotesBegin }
+    ensures empty { EmptyIsFree }
+    ensures records { RecordsTell }
+    ensures works { WorksTell }
+{}
+
+/// No lane has a Work out where nobody is out; until the journal has ended the converse holds too.
+pub fn calm_is_empty()
+    ensures { CalmIsEmpty }
 {}

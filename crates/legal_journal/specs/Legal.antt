@@ -38,13 +38,18 @@ worker_count s = length s.workers
 
 -- ---- what is admitted
 
+-- it is this lane
+abbrev pub is_lane : ℕ → Option ℕ → Bool
+is_lane k None = false
+is_lane k (Some l) = k == l
+
+-- worker i is out with lane k
+abbrev pub is_out_with : State → ℕ → ℕ → Bool
+is_out_with s k i = is_running (worker_at s.workers i) && is_lane k (Past.lane_of i s.past)
+
 -- a lane has its Work out while a worker that it took is Running
 abbrev pub has_work_out : State → ℕ → Bool
-has_work_out s k = list_any (λ i. is_running (worker_at s.workers i) && is_lane k (Past.lane_of i s.past)) (numbers_below (worker_count s))
-  where
-    is_lane : ℕ → Option ℕ → Bool
-    is_lane k None = false
-    is_lane k (Some l) = k == l
+has_work_out s k = list_any (is_out_with s k) (numbers_below (worker_count s))
 
 -- a snapshot is due after so many Takes as the setting says, where it says some
 abbrev pub snapshot_is_due : System → State → Bool

@@ -1,12 +1,8 @@
-use Rattle.std.proofs.Common.{◌≡◌, ◌+◌, ◌*◌, ℕ, sym, ◌∙◌, ap, subst, arith}
-use Rattle.std.proofs.lemmas.Bool.{MatchBool-at_true}
-use Rattle.graph_core.specs.declared.job.Job.{Job}
+use Rattle.std.proofs.Common.{sym, ◌∙◌, subst}
 use Rattle.token_cut.specs.Shapes.{Starts, IsShape}
-use Rattle.base_machine.specs.Bounds.{bound_of}
 use Rattle.token_cut.specs.Parts.{SnapshotParts}
 use Rattle.base_machine.specs.Machine.{system_of}
 use Rattle.base_machine.specs.Fitness.{IsInForm}
-use Rattle.grape_hub.specs.Theorems.{event_bound}
 use Rattle.coordinator.proofs.Places.{in_limits}
 use Rattle.coordinator.proofs.Beginnings.{begun_fresh}
 use Rattle.coordinator.proofs.alone.run_on.Goals as goal
@@ -14,21 +10,17 @@ use Rattle.coordinator.proofs.alone.run_on.Goals as goal
 pub fresh-requires : goal.fresh-requires
 fresh-requires g c = subst (λ (s : Starts). IsShape s) (sym c.requires.shape) (in_limits c.args.job.now c.requires.job)
 
-pub turns-init : goal.turns-init
-turns-init g c =
-    let begins = c.in-Ok-open.ensures.beginning in
-    let hub = c.in-Ok-open.ensures.hub in
-    let start = begins.3 ∙ begun_fresh c.args.job.now c.args.shape.now c.in-Ok.start c.requires.shape c.in-Ok.ensures in
-    (begins.0, start, begins.1, hub, c.turns_are_calm.ensures.beginning c.in-Ok-open.hub hub begins.2)
-
 pub open-requires-clause-start : goal.open-requires-clause-start
 open-requires-clause-start g c =
     subst (λ (s : SnapshotParts). IsInForm (system_of c.args.job.now) s) (sym (begun_fresh c.args.job.now c.args.shape.now c.in-Ok.start c.requires.shape c.in-Ok.ensures))
     (c.fresh_is_a_start.ensures c.args.job.now c.requires.job).0
 
-pub turns-smaller : goal.turns-smaller
-turns-smaller g c =
-    let went = MatchBool-at_true _ _ c.turns-test.true c.take_turn.ensures.goes_on in
-    let same : event_bound c.take_turn.new.hub ≡ event_bound c.turns.hub = ap {B = ℕ} (λ (job : Job). (140 + 2 * job.settings.fragments) * (bound_of (system_of job) + job.settings.fragments)) c.take_turn.ensures.same.0 in
-    let bound = c.hubs_are_bounded.ensures c.take_turn.new.hub c.take_turn.ensures.hub in
-    omega (arith, went, same, bound)
+pub run_out-requires-clause-calm : goal.run_out-requires-clause-calm
+run_out-requires-clause-calm g c = c.turns_are_calm.ensures.beginning c.in-Ok-open.hub.hub c.in-Ok-open.ensures.hub.0 c.in-Ok-open.ensures.beginning.0.2
+
+pub ended-requires-clause-start : goal.ended-requires-clause-start
+ended-requires-clause-start g c =
+    c.run_out.ensures.same.1 ∙ (c.in-Ok-open.ensures.beginning.0.3 ∙ begun_fresh c.args.job.now c.args.shape.now c.in-Ok.start c.requires.shape c.in-Ok.ensures)
+
+pub ended-requires-clause-free : goal.ended-requires-clause-free
+ended-requires-clause-free g c lane l = (c.calm_is_empty.ensures c.run_out.new.hub c.run_out.ensures.hub).0 c.run_out.ensures.calm lane

@@ -9,5 +9,5 @@ steps-preserved g c =
       job,
       c.step-one.ensures.along.counters ∙ c.steps.invariant.1,
       c.step-one.ensures.driven,
-      c.in_ok-keep_copy.ensures (machine c.args.hub.now) c.steps.invariant.3 (form_stays c.step-one.new.hub c.args.hub.now c.step-one.new.into (sym job) c.step-one.ensures.driven.into),
+      c.in_ok-keep_copy.ensures (machine c.args.hub.now.hub) c.steps.invariant.3 (form_stays c.step-one.new.hub.hub c.args.hub.now.hub c.step-one.new.into (sym job) c.step-one.ensures.driven.into),
     )

@@ -6,4 +6,4 @@ use Rattle.coordinator.specs.Lanes.{IsDriven}
 use Rattle.coordinator.proofs.snapshots.drive.Given as goal
 
 abbrev pub invariant-steps : goal.invariant-steps
-invariant-steps g l = (l.hub.job ≡ l.fn.hub.job) × (l.hub.counters ≡ l.fn.hub.counters) × IsDriven l.hub l.first l.second l.into × All (λ s. IsInForm (machine l.fn.hub) s) l.kept.items
+invariant-steps g l = (l.hub.hub.job ≡ l.fn.hub.hub.job) × (l.hub.hub.counters ≡ l.fn.hub.hub.counters) × IsDriven l.hub l.first l.second l.into × All (λ s. IsInForm (machine l.fn.hub.hub) s) l.kept.items

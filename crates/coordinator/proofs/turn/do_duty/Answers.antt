@@ -10,32 +10,32 @@ use Rattle.coordinator.proofs.turn.do_duty.Goals as goal
 
 pub returns-in-Nothing : goal.returns-in-Nothing
 returns-in-Nothing g c =
-    let chosen = subst (λ (r : Duty). ChoosesDuty c.args.hub.now r c.duty.new.self) c.in-Nothing.is c.duty.ensures.chosen in
+    let chosen = subst (λ (r : Duty). ChoosesDuty c.args.hub.now.hub r c.duty.new.self.hub) c.in-Nothing.is c.duty.ensures.chosen in
     record {
       same = (ap (λ (h : HubValues). h.job) chosen.1, ap (λ (h : HubValues). h.counters) chosen.1, ap (λ (h : HubValues). h.start) chosen.1);
       hub = c.duty.ensures.hub;
       calm = subst (λ (h : HubValues). IsCalm h) (sym chosen.1) c.requires.calm;
-      duty = (chosen.1, subst (λ (h : HubValues). HasNoDuty h) (sym chosen.1) (chosen.2, (c.nothing_is_sealed.ensures c.args.hub.now c.requires.hub c.requires.snapshot).0, chosen.0));
+      duty = (chosen.1, subst (λ (h : HubValues). HasNoDuty h) (sym chosen.1) (chosen.2, (c.nothing_is_sealed.ensures c.args.hub.now.hub c.requires.hub.0 c.requires.snapshot).0, chosen.0));
     }
 
 pub returns-in-NoMemory : goal.returns-in-NoMemory
 returns-in-NoMemory g c =
-    let same = subst (λ (r : Duty). ChoosesDuty c.args.hub.now r c.duty.new.self) c.in-NoMemory.is c.duty.ensures.chosen in
-    let s = stopped_unchanged c.turns_are_calm.ensures.other c.args.hub.now c.duty.new.self c.give_up.new.hub Memory c.requires.calm same c.duty.ensures.hub c.give_up.ensures.stopped c.give_up.ensures.hub in
-    record { same = (s.job, s.counters, s.start); hub = c.give_up.ensures.hub; calm = s.calm; duty = subst (λ b. GoesOn b c.args.hub.now c.give_up.new.hub) (sym c.give_up.ensures.stays) s.ended }
+    let same = subst (λ (r : Duty). ChoosesDuty c.args.hub.now.hub r c.duty.new.self.hub) c.in-NoMemory.is c.duty.ensures.chosen in
+    let s = stopped_unchanged c.turns_are_calm.ensures.other c.args.hub.now.hub c.duty.new.self.hub c.give_up.new.hub.hub Memory c.requires.calm same c.duty.ensures.hub.0 c.give_up.ensures.stopped c.give_up.ensures.hub.0 in
+    record { same = (s.job, s.counters, s.start); hub = c.give_up.ensures.hub; calm = s.calm; duty = subst (λ b. GoesOn b c.args.hub.now.hub c.give_up.new.hub.hub) (sym c.give_up.ensures.stays) s.ended }
 
 pub returns-in-Did : goal.returns-in-Did
 returns-in-Did g c =
-    let d = duty_done c.choices_are_exact.ensures.duty c.turns_are_calm.ensures.other c.args.hub.now c.duty.new.self c.duty.result c.requires.hub c.requires.calm c.in-Did.is c.duty.ensures.chosen c.duty.ensures.hub in
+    let d = duty_done c.choices_are_exact.ensures.duty c.turns_are_calm.ensures.other c.args.hub.now.hub c.duty.new.self.hub c.duty.result c.requires.hub.0 c.requires.calm c.in-Did.is c.duty.ensures.chosen c.duty.ensures.hub.0 in
     record { same = (d.job, d.counters, d.start); hub = c.duty.ensures.hub; calm = d.calm; duty = d.longer }
 
 pub returns-in-Ended-clause-calm : goal.returns-in-Ended-clause-calm
 returns-in-Ended-clause-calm g c =
-    let chosen = subst (λ (r : Duty). ChoosesDuty c.args.hub.now r c.duty.new.self) c.in-Ended.is c.duty.ensures.chosen in
+    let chosen = subst (λ (r : Duty). ChoosesDuty c.args.hub.now.hub r c.duty.new.self.hub) c.in-Ended.is c.duty.ensures.chosen in
     subst (λ (h : HubValues). IsCalm h) (sym chosen.0) c.requires.calm
 
 pub duty-requires-clause-kept : goal.duty-requires-clause-kept
-duty-requires-clause-kept g c = (c.nothing_is_sealed.ensures c.args.hub.now c.requires.hub c.requires.snapshot).0
+duty-requires-clause-kept g c = (c.nothing_is_sealed.ensures c.args.hub.now.hub c.requires.hub.0 c.requires.snapshot).0
 
 pub duty-requires-clause-sizes : goal.duty-requires-clause-sizes
 duty-requires-clause-sizes g c asked = absurd (omega (arith, asked, c.requires.snapshot))

@@ -6,85 +6,89 @@ use Rattle.grape_event.specs.declared.event.StopCause.TheVariants.{Memory}
 use Rattle.grape_hub.specs.declared.work.Next.{Next}
 use Rattle.grape_hub.specs.HubValues.{HubValues}
 use Rattle.grape_hub.specs.States.{state_of}
+use Rattle.grape_hub.specs.LanedHub.{lanes_after_answer}
 use Rattle.grape_hub.specs.Desks.{has_taken}
 use Rattle.grape_hub.specs.Calls.{Chooses, ReadyWhereTook}
 use Rattle.grape_hub.specs.Theorems.{IsCalm}
 use Rattle.coordinator.specs.Turns.{GoesOn}
-use Rattle.coordinator.proofs.Turns.{worker_has_part, part_of_worker, evaluates, solves, stopped_unchanged, given_after_take}
+use Rattle.coordinator.proofs.Turns.{worker_has_part, part_of_worker, evaluates, solves, took_is_out, stopped_unchanged, given_after_take}
 use Rattle.coordinator.proofs.turn.serve.Goals as goal
 
 pub next-requires-clause-free : goal.next-requires-clause-free
-next-requires-clause-free g c = c.turns_are_calm.ensures.free c.args.hub.now 0 c.requires.calm
+next-requires-clause-free g c = (c.calm_is_empty.ensures c.args.hub.now c.requires.hub).0 c.requires.calm 0
 
 pub bounds-fragments-work : goal.bounds-fragments-work
 bounds-fragments-work g c =
-    let old = c.args.hub.now in
-    let new = c.next.new.self in
+    let old = c.args.hub.now.hub in
+    let new = c.next.new.self.hub in
     let work = c.in-Took.work in
     let chosen = subst (λ (r : Next). Chooses old 0 r new) c.in-Took.is c.next.ensures.chosen in
-    worker_has_part new 0 (not (has_taken work.worker (state_of old).past)) work c.args.fragments.now c.next.ensures.hub chosen.2
+    worker_has_part new 0 (not (has_taken work.worker (state_of old).past)) work c.args.fragments.now c.next.ensures.hub.0 chosen.2
     (c.requires.fragments ∙ ap (λ (job : Job). fragments_of job) (sym chosen.1.0))
 
 pub evaluate-requires : goal.evaluate-requires
 evaluate-requires g c =
-    let old = c.args.hub.now in
-    let new = c.next.new.self in
+    let old = c.args.hub.now.hub in
+    let new = c.next.new.self.hub in
     let work = c.in-Took.work in
     let fresh = not (has_taken work.worker (state_of old).past) in
     let chosen = subst (λ (r : Next). Chooses old 0 r new) c.in-Took.is c.next.ensures.chosen in
     let ready = subst (λ (r : Next). ReadyWhereTook new r) c.in-Took.is c.next.ensures.ready in
     let parts = c.requires.fragments ∙ ap (λ (job : Job). fragments_of job) (sym chosen.1.0) in
     let is_for = subst (λ (job : Job). g.P.Pie.is_for c.args.program.now job) (sym chosen.1.0) c.requires.program in
-    let part = part_of_worker new 0 fresh work c.args.fragments.now c.index-fragments-work.result c.next.ensures.hub chosen.2 parts c.index-fragments-work.is in
+    let part = part_of_worker new 0 fresh work c.args.fragments.now c.index-fragments-work.result c.next.ensures.hub.0 chosen.2 parts c.index-fragments-work.is in
     let counters : g.P.Pie.counters_for new.job ≡ new.counters = ap (λ (job : Job). g.P.Pie.counters_for job) chosen.1.0 ∙ (sym c.requires.counters ∙ sym chosen.1.1) in (
       new.job,
       is_for,
       evaluates new.job (equations_of new.job) (g.P.Pie.equations c.args.program.now new.job) (fragment_of new.job work.worker) c.index-fragments-work.result work.fresh work.local new.counters (g.P.Pie.counters_for new.job) work.hand
-          (g.met.P.Pie.of_query c.args.program.now new.job is_for) part counters (c.works_go_round.ensures.evaluated new 0 fresh work c.next.ensures.hub chosen.2 ready),
+          (g.met.P.Pie.of_query c.args.program.now new.job is_for) part counters (c.works_go_round.ensures.evaluated new 0 fresh work c.next.ensures.hub.0 chosen.2 ready),
     )
 
-pub give-requires : goal.give-requires
-give-requires g c =
-    let old = c.args.hub.now in
-    let new = c.next.new.self in
+pub give-requires-clause-out : goal.give-requires-clause-out
+give-requires-clause-out g c = took_is_out c.args.hub.now c.next.new.self 0 c.in-Took.work c.requires.hub c.requires.hub.0.job.settings.lanes.0 (subst (λ (r : Next). c.next.new.self.lanes ≡ lanes_after_answer c.args.hub.now 0 r c.next.new.self.hub) c.in-Took.is c.next.ensures.record)
+
+pub give-requires-clause-work : goal.give-requires-clause-work
+give-requires-clause-work g c =
+    let old = c.args.hub.now.hub in
+    let new = c.next.new.self.hub in
     let work = c.in-Took.work in
     let fresh = not (has_taken work.worker (state_of old).past) in
     let chosen = subst (λ (r : Next). Chooses old 0 r new) c.in-Took.is c.next.ensures.chosen in
     let ready = subst (λ (r : Next). ReadyWhereTook new r) c.in-Took.is c.next.ensures.ready in
     let parts = c.requires.fragments ∙ ap (λ (job : Job). fragments_of job) (sym chosen.1.0) in
     let is_for = subst (λ (job : Job). g.P.Pie.is_for c.args.program.now job) (sym chosen.1.0) c.requires.program in
-    let part = part_of_worker new 0 fresh work c.args.fragments.now c.index-fragments-work.result c.next.ensures.hub chosen.2 parts c.index-fragments-work.is in
+    let part = part_of_worker new 0 fresh work c.args.fragments.now c.index-fragments-work.result c.next.ensures.hub.0 chosen.2 parts c.index-fragments-work.is in
     let counters : g.P.Pie.counters_for new.job ≡ new.counters = ap (λ (job : Job). g.P.Pie.counters_for job) chosen.1.0 ∙ (sym c.requires.counters ∙ sym chosen.1.1) in
     let same = g.met.P.Pie.of_query c.args.program.now new.job is_for in
     let may = evaluates new.job (equations_of new.job) (g.P.Pie.equations c.args.program.now new.job) (fragment_of new.job work.worker) c.index-fragments-work.result work.fresh work.local new.counters (g.P.Pie.counters_for new.job) work.hand
-    same part counters (c.works_go_round.ensures.evaluated new 0 fresh work c.next.ensures.hub chosen.2 ready) in
+    same part counters (c.works_go_round.ensures.evaluated new 0 fresh work c.next.ensures.hub.0 chosen.2 ready) in
     let solved = solves (equations_of new.job) (g.P.Pie.equations c.args.program.now new.job) (fragment_of new.job work.worker) c.index-fragments-work.result work.local.values work.hand.values c.evaluate.new.local.values
     same part (c.evaluate.ensures.solution new.job is_for may) in
-    c.works_go_round.ensures.given new 0 fresh work c.evaluate.new.local c.next.ensures.hub chosen.2 solved c.evaluate.ensures.before c.evaluate.ensures.counters
+    c.works_go_round.ensures.given new 0 fresh work c.evaluate.new.local c.next.ensures.hub.0 chosen.2 solved c.evaluate.ensures.before c.evaluate.ensures.counters
 
 pub returns-in-Took-clause-calm : goal.returns-in-Took-clause-calm
 returns-in-Took-clause-calm g c =
-    let chosen = subst (λ (r : Next). Chooses c.args.hub.now 0 r c.next.new.self) c.in-Took.is c.next.ensures.chosen in
-    c.turns_are_calm.ensures.turn c.args.hub.now c.next.new.self c.give.new.self c.in-Took.work.worker 0 c.requires.hub c.requires.calm chosen.1 c.next.ensures.hub
-    (given_after_take c.args.hub.now c.next.new.self c.give.new.self c.in-Took.work.worker 0 c.in-Took.work.worker chosen.1 c.give.ensures.given) c.give.ensures.hub
+    let chosen = subst (λ (r : Next). Chooses c.args.hub.now.hub 0 r c.next.new.self.hub) c.in-Took.is c.next.ensures.chosen in
+    c.turns_are_calm.ensures.turn c.args.hub.now.hub c.next.new.self.hub c.give.new.self.hub c.in-Took.work.worker 0 c.requires.hub.0 c.requires.calm chosen.1 c.next.ensures.hub.0
+    (given_after_take c.args.hub.now.hub c.next.new.self.hub c.give.new.self.hub c.in-Took.work.worker 0 c.in-Took.work.worker chosen.1 c.give.ensures.given) c.give.ensures.hub.0
 
 pub returns-in-Did-clause-calm : goal.returns-in-Did-clause-calm
 returns-in-Did-clause-calm g c =
-    let chosen = subst (λ (r : Next). Chooses c.args.hub.now 0 r c.next.new.self) c.in-Did.is c.next.ensures.chosen in
-    c.turns_are_calm.ensures.other c.args.hub.now c.next.new.self c.in-Did.field-0 c.requires.hub c.requires.calm chosen.1 chosen.2 c.next.ensures.hub
+    let chosen = subst (λ (r : Next). Chooses c.args.hub.now.hub 0 r c.next.new.self.hub) c.in-Did.is c.next.ensures.chosen in
+    c.turns_are_calm.ensures.other c.args.hub.now.hub c.next.new.self.hub c.in-Did.field-0 c.requires.hub.0 c.requires.calm chosen.1 chosen.2 c.next.ensures.hub.0
 
 pub returns-in-Ended-clause-calm : goal.returns-in-Ended-clause-calm
 returns-in-Ended-clause-calm g c =
-    let chosen = subst (λ (r : Next). Chooses c.args.hub.now 0 r c.next.new.self) c.in-Ended.is c.next.ensures.chosen in
+    let chosen = subst (λ (r : Next). Chooses c.args.hub.now.hub 0 r c.next.new.self.hub) c.in-Ended.is c.next.ensures.chosen in
     subst (λ (h : HubValues). IsCalm h) (sym chosen.0) c.requires.calm
 
 pub returns-in-NoMemory : goal.returns-in-NoMemory
 returns-in-NoMemory g c =
-    let same = subst (λ (r : Next). Chooses c.args.hub.now 0 r c.next.new.self) c.in-NoMemory.is c.next.ensures.chosen in
-    let s = stopped_unchanged c.turns_are_calm.ensures.other c.args.hub.now c.next.new.self c.give_up.new.hub Memory c.requires.calm same c.next.ensures.hub c.give_up.ensures.stopped c.give_up.ensures.hub in
-    record { same = (s.job, s.counters, s.start); hub = c.give_up.ensures.hub; calm = s.calm; goes_on = subst (λ b. GoesOn b c.args.hub.now c.give_up.new.hub) (sym c.give_up.ensures.stays) s.ended }
+    let same = subst (λ (r : Next). Chooses c.args.hub.now.hub 0 r c.next.new.self.hub) c.in-NoMemory.is c.next.ensures.chosen in
+    let s = stopped_unchanged c.turns_are_calm.ensures.other c.args.hub.now.hub c.next.new.self.hub c.give_up.new.hub.hub Memory c.requires.calm same c.next.ensures.hub.0 c.give_up.ensures.stopped c.give_up.ensures.hub.0 in
+    record { same = (s.job, s.counters, s.start); hub = c.give_up.ensures.hub; calm = s.calm; goes_on = subst (λ b. GoesOn b c.args.hub.now.hub c.give_up.new.hub.hub) (sym c.give_up.ensures.stays) s.ended }
 
 pub unreachable-requires : goal.unreachable-requires
 unreachable-requires g c =
-    let chosen = subst (λ (r : Next). Chooses c.args.hub.now 0 r c.next.new.self) c.in-Idle.is c.next.ensures.chosen in
-    c.one_lane_goes_on.ensures c.args.hub.now 0 c.requires.hub c.requires.calm c.requires.duty.1 c.requires.duty.0 c.requires.hub.job.settings.lanes.0 c.requires.duty.2 chosen.0
+    let chosen = subst (λ (r : Next). Chooses c.args.hub.now.hub 0 r c.next.new.self.hub) c.in-Idle.is c.next.ensures.chosen in
+    c.one_lane_goes_on.ensures c.args.hub.now.hub 0 c.requires.hub.0 c.requires.calm c.requires.duty.1 c.requires.duty.0 c.requires.hub.0.job.settings.lanes.0 c.requires.duty.2 chosen.0

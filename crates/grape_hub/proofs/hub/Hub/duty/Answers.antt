@@ -1,22 +1,30 @@
-use Rattle.std.proofs.Common.{◌≡◌, true, subst, ◌∙◌}
-use Rattle.grape_event.specs.declared.event.Event.{Event}
-use Rattle.legal_journal.specs.Legal.{is_admitted}
-use Rattle.legal_journal.proofs.Choosing.{duties_are_exact}
-use Rattle.grape_hub.specs.States.{machine, state_of}
-use Rattle.grape_hub.proofs.Duties.{duty_notes}
+use Rattle.std.proofs.Common.{◌≡◌, refl, sym, subst, None}
+use Rattle.grape_hub.specs.States.{state_of, sealed_epoch}
+use Rattle.grape_hub.specs.LanedHub.{LanedHub}
+use Rattle.grape_hub.specs.Notes.{OthersStay}
+use Rattle.grape_hub.proofs.LanesKept.{duty_call_keeps}
 use Rattle.grape_hub.proofs.hub.Hub.duty.Goals as goal
 
-pub seal-requires-clause-admitted : goal.seal-requires-clause-admitted
-seal-requires-clause-admitted g c =
-    let found = (duties_are_exact (machine c.args.self.now) (state_of c.args.self.now)).0 c.in-Some.event (c.duty_event.ensures.choice ∙ c.in-Some.is) in
-    subst (λ (e : Event). is_admitted (machine c.args.self.now) (state_of c.args.self.now) e ≡ true) c.in-Seal.is found.0
+pub duty-requires-clause-kept : goal.duty-requires-clause-kept
+duty-requires-clause-kept g c = subst (λ (v : LanedHub). sealed_epoch (state_of v.hub).past ≡ None) (sym c.self.view_is) c.requires.kept
 
-pub begin-requires : goal.begin-requires
-begin-requires g c =
-    let found = (duties_are_exact (machine c.args.self.now) (state_of c.args.self.now)).0 c.in-Some.event (c.duty_event.ensures.choice ∙ c.in-Some.is) in
-    record { admitted = subst (λ (e : Event). is_admitted (machine c.args.self.now) (state_of c.args.self.now) e ≡ true) c.in-Begin.is found.0 }
+pub invariant_of-self : goal.invariant_of-self
+invariant_of-self g c =
+    let x : LanedHub = record { hub = c.self.inside.engine; lanes = c.self.inside.lanes.items } in
+    let y : LanedHub = record { hub = c.duty.new.self; lanes = c.self.inside.lanes.items } in
+    let keeps = duty_call_keeps x y c.duty.result c.self.invariant.0 c.duty.ensures.hub c.duty.ensures.chosen refl in
+    (keeps.stands, keeps.given c.self.inside.given_up.items c.self.invariant.1)
 
-pub note-requires : goal.note-requires
-note-requires g c =
-    let found = (duties_are_exact (machine c.args.self.now) (state_of c.args.self.now)).0 c.in-Some.event (c.duty_event.ensures.choice ∙ c.in-Some.is) in
-    record { note = duty_notes c.in-Some.event found.1 c.in_default-event.not-Begin c.in_default-event.not-Seal; admitted = found.0 }
+pub returns-clause-others : goal.returns-clause-others
+returns-clause-others g c =
+    let x : LanedHub = record { hub = c.self.inside.engine; lanes = c.self.inside.lanes.items } in
+    let y : LanedHub = record { hub = c.duty.new.self; lanes = c.self.inside.lanes.items } in
+    let keeps = duty_call_keeps x y c.duty.result c.self.invariant.0 c.duty.ensures.hub c.duty.ensures.chosen refl in
+    subst (λ (v : LanedHub). OthersStay v v.hub.job.settings.lanes y) c.self.view_is keeps.others
+
+pub returns-clause-hub : goal.returns-clause-hub
+returns-clause-hub g c =
+    let x : LanedHub = record { hub = c.self.inside.engine; lanes = c.self.inside.lanes.items } in
+    let y : LanedHub = record { hub = c.duty.new.self; lanes = c.self.inside.lanes.items } in
+    let keeps = duty_call_keeps x y c.duty.result c.self.invariant.0 c.duty.ensures.hub c.duty.ensures.chosen refl in
+    keeps.stands

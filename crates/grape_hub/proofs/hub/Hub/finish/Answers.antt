@@ -1,31 +1,16 @@
-use Rattle.std.proofs.Common.{sym, ◌∙◌, subst}
-use Rattle.grape_hub.specs.HubValues.{HubValues}
-use Rattle.grape_hub.specs.States.{machine, state_of}
-use Rattle.grape_hub.specs.Desks.{Tables}
-use Rattle.grape_hub.specs.Calls.{HaveValues, HaveSizes}
-use Rattle.grape_hub.specs.Theorems.{IsCalm}
-use Rattle.grape_hub.proofs.Finished.{all_here, have_values, have_sizes}
-use Rattle.grape_hub.proofs.Hubs.{workers_are, piece_count}
+use Rattle.std.proofs.Common.{◌≡◌, ◌<◌, ℕ, false, sym, subst}
+use Rattle.grape_hub.specs.LanedHub.{LanedHub, is_out_at}
+use Rattle.grape_hub.specs.Calls.{HaveValues, HaveStartValues}
+use Rattle.grape_hub.proofs.LanesKept.{all_given_up}
 use Rattle.grape_hub.proofs.hub.Hub.finish.Goals as goal
 
-pub into_locals-requires-clause-here : goal.into_locals-requires-clause-here
-into_locals-requires-clause-here g c =
-    let k = c.self.inside in
-    let h : HubValues = record { job = k.job; counters = g.P.Pie.counters_for k.job; start = k.start; journal = k.journal } in
-    let t : Tables = record { routes = k.routes.items; desks = k.desks.items; probe = k.probe; cut = k.cut; counts = k.counts; turn = k.turn } in
-    all_here (machine h) (state_of h) h.counters t c.self.invariant.2 (subst (λ (x : HubValues). IsCalm x) (sym c.self.view_is) c.requires.calm)
+pub finish-requires-clause-given : goal.finish-requires-clause-given
+finish-requires-clause-given g c =
+    let x : LanedHub = record { hub = c.self.inside.engine; lanes = c.self.inside.lanes.items } in
+    all_given_up x c.self.inside.given_up.items c.self.invariant.0 (subst (λ (v : LanedHub). (k : ℕ) → k < v.hub.job.settings.lanes → is_out_at v k ≡ false) (sym c.self.view_is) c.requires.free) c.self.invariant.1
 
 pub returns-clause-values : goal.returns-clause-values
-returns-clause-values g c =
-    let k = c.self.inside in
-    let h : HubValues = record { job = k.job; counters = g.P.Pie.counters_for k.job; start = k.start; journal = k.journal } in
-    let t : Tables = record { routes = k.routes.items; desks = k.desks.items; probe = k.probe; cut = k.cut; counts = k.counts; turn = k.turn } in
-    subst (λ (x : HubValues). HaveValues x c.into_locals.result.items) c.self.view_is (have_values (machine h) (state_of h) h.counters t c.self.invariant.2 c.into_locals.result.items c.into_locals.ensures)
+returns-clause-values g c = subst (λ (v : LanedHub). HaveValues v.hub c.finish.result.0.items) c.self.view_is c.finish.ensures.values
 
-pub returns-clause-sizes : goal.returns-clause-sizes
-returns-clause-sizes g c =
-    let k = c.self.inside in
-    let h : HubValues = record { job = k.job; counters = g.P.Pie.counters_for k.job; start = k.start; journal = k.journal } in
-    let t : Tables = record { routes = k.routes.items; desks = k.desks.items; probe = k.probe; cut = k.cut; counts = k.counts; turn = k.turn } in
-    subst (λ (x : HubValues). HaveSizes x c.into_locals.result.items) c.self.view_is
-    (have_sizes (machine h) (state_of h) h.counters t c.self.invariant.2 (piece_count h ∙ sym (workers_are h c.self.invariant.1)) c.into_locals.result.items c.into_locals.ensures)
+pub returns-clause-given_up : goal.returns-clause-given_up
+returns-clause-given_up g c = subst (λ (v : LanedHub). HaveStartValues v.hub c.finish.result.0.items) c.self.view_is c.finish.ensures.given_up

@@ -1,96 +1,46 @@
-use Rattle.std.proofs.Common.{reverse, refl, sym, ◌∙◌, ap, subst}
-use Rattle.grape_event.specs.declared.event.Event.TheVariants.{Ack, Nack, Flag, Hold, Mark}
+use Rattle.std.proofs.Common.{◌≡◌, ◌<◌, sym, ◌∙◌, ap, subst, false, List, Option, slice_set, reverse}
+use Rattle.grape_event.specs.JournalList.{JournalList}
 use Rattle.legal_journal.specs.Past.{has_ended}
-use Rattle.grape_hub.specs.declared.kind.Kind.TheVariants as kind
-use Rattle.grape_hub.specs.HubValues.{HubValues}
-use Rattle.grape_hub.specs.States.{machine, state_of}
-use Rattle.grape_hub.specs.Choices.{IsChoice}
-use Rattle.grape_hub.proofs.Nexts.{is_found, event_admitted, stretch_admitted, take_idle, take_chosen, take_ready, stretch_chosen, did_chosen, none_chosen}
+use Rattle.pie_core.specs.Locals.{LocalValues}
+use Rattle.grape_hub.specs.declared.lane_record.LaneRecord.{LaneRecord}
+use Rattle.grape_hub.specs.LanedHub.{LanedHub, is_out_at}
+use Rattle.grape_hub.specs.Calls.{Chooses}
+use Rattle.grape_hub.specs.Notes.{OthersStay}
+use Rattle.grape_hub.specs.GivenUp.{HoldsGivenUp}
+use Rattle.grape_hub.proofs.LanesKept.{Keeps, ended_chosen, same_chosen, next_keeps}
+use Rattle.grape_hub.proofs.hub.Hub.next.Given.{Over}
+use Rattle.grape_hub.proofs.hub.Hub.next.Goals.{then-ended, else-ended}
 use Rattle.grape_hub.proofs.hub.Hub.next.Goals as goal
 
-pub returns-in_default-clause-chosen : goal.returns-in_default-clause-chosen
-returns-in_default-clause-chosen g c = (
-  none_chosen c.args.self.now c.args.lane (subst (IsChoice (machine c.args.self.now) (state_of c.args.self.now) c.args.lane) c.in_default.is c.choice.ensures.choice),
-  refl,
-  ap (λ (x : HubValues). has_ended (reverse x.journal.events)) (sym c.self.view_is) ∙ (sym c.ended.ensures ∙ c.if-ended.false),
-)
+-- the hub before and after the call
+abbrev before : (g : Over) → goal.After-self-1 g → LanedHub
+before g c = record { hub = c.self.inside.engine; lanes = c.self.inside.lanes.items }
 
-pub mark-requires : goal.mark-requires
-mark-requires g c =
-    let found = is_found c.args.self.now c.args.lane c.in-Some.worker kind.Mark c.in-Some.kind c.choice.result c.in-Some.is c.in-Mark.is c.choice.ensures.choice in
-    record { admitted = event_admitted c.args.self.now c.args.lane kind.Mark c.in-Some.worker found }
+abbrev after : (g : Over) → goal.After-self-1 g → LanedHub
+after g c = record { hub = c.if-ended.self-inside.engine; lanes = slice_set c.if-ended.self-inside.lanes.items c.args.lane c.answered.new.self }
 
-pub take-requires-clause-admitted : goal.take-requires-clause-admitted
-take-requires-clause-admitted g c =
-    let found = is_found c.args.self.now c.args.lane c.in-Some.worker kind.Take c.in-Some.kind c.choice.result c.in-Some.is c.in-Take.is c.choice.ensures.choice in
-    event_admitted c.args.self.now c.args.lane kind.Take c.in-Some.worker found
+chosen : (g : Over) (c : goal.After-self-1 g) → Chooses c.self.inside.engine c.args.lane c.if-ended.answer c.if-ended.self-inside.engine
+chosen g c = elim c.if-ended.branch [
+  | then-ended w ↦ ended_chosen c.self.inside.engine c.if-ended.self-inside.engine c.args.lane c.if-ended.answer w.answer-is (λ t. (w.self-inside-is t).engine)
+      (ap (λ (j : JournalList). has_ended (reverse j.events)) (sym c.journal.ensures.journal) ∙ (sym c.ended.ensures ∙ w.if-ended.true))
+  | else-ended w ↦ same_chosen c.self.inside.engine c.if-ended.self-inside.engine w.next-answer.new.self c.args.lane c.if-ended.answer w.next-answer.result w.answer-is (λ t. (w.self-inside-is t).engine) w.next-answer.ensures.chosen
+]
 
-pub take-requires-clause-idle : goal.take-requires-clause-idle
-take-requires-clause-idle g c =
-    let found = is_found c.args.self.now c.args.lane c.in-Some.worker kind.Take c.in-Some.kind c.choice.result c.in-Some.is c.in-Take.is c.choice.ensures.choice in
-    take_idle c.args.self.now c.args.lane c.in-Some.worker found
+keeps : (g : Over) (c : goal.After-self-1 g) → Keeps (before g c) c.args.lane (after g c)
+keeps g c =
+    let lanes : c.if-ended.self-inside.lanes.items ≡ c.self.inside.lanes.items = elim c.if-ended.branch [ then-ended w ↦ λ t. (w.self-inside-is t).lanes.items | else-ended w ↦ λ t. (w.self-inside-is t).lanes.items ] in
+    next_keeps (before g c) (after g c) c.args.lane c.if-ended.answer c.answered.new.self c.index_mut.result.now c.len-long.result c.self.invariant.0
+    (subst (λ (v : LanedHub). c.args.lane < v.hub.job.settings.lanes) (sym c.self.view_is) c.requires.lane) (subst (λ (v : LanedHub). is_out_at v c.args.lane ≡ false) (sym c.self.view_is) c.requires.free)
+    c.journal-2.ensures.hub (chosen g c) c.answered.ensures (ap (λ (rs : List LaneRecord). slice_set rs c.args.lane c.answered.new.self) lanes)
 
-pub stretch-requires : goal.stretch-requires
-stretch-requires g c =
-    let found = is_found c.args.self.now c.args.lane c.in-Some.worker kind.Stretch c.in-Some.kind c.choice.result c.in-Some.is c.in-Stretch.is c.choice.ensures.choice in
-    record { admitted = stretch_admitted c.args.self.now c.args.lane c.in-Some.worker found }
+pub invariant_of-self : goal.invariant_of-self
+invariant_of-self g c =
+    let given : c.if-ended.self-inside.given_up.items ≡ c.self.inside.given_up.items = elim c.if-ended.branch [ then-ended w ↦ λ t. (w.self-inside-is t).given_up.items | else-ended w ↦ λ t. (w.self-inside-is t).given_up.items ] in
+    let k = keeps g c in
+    (k.stands, subst (λ (locals : List (Option LocalValues)). HoldsGivenUp (after g c) locals) (sym given) (k.given c.self.inside.given_up.items c.self.invariant.1))
 
-pub did-requires-clause-admitted : goal.did-requires-clause-admitted
-did-requires-clause-admitted g c =
-    let found = is_found c.args.self.now c.args.lane c.in-Some.worker kind.Ack c.in-Some.kind c.choice.result c.in-Some.is c.in-Ack.is c.choice.ensures.choice in
-    event_admitted c.args.self.now c.args.lane kind.Ack c.in-Some.worker found
+pub returns-clause-others : goal.returns-clause-others
+returns-clause-others g c = let k = keeps g c in subst (λ (v : LanedHub). OthersStay v c.args.lane (after g c)) c.self.view_is k.others
 
-pub did-requires-in-Nack-clause-admitted : goal.did-requires-in-Nack-clause-admitted
-did-requires-in-Nack-clause-admitted g c =
-    let found = is_found c.args.self.now c.args.lane c.in-Some.worker kind.Nack c.in-Some.kind c.choice.result c.in-Some.is c.in-Nack.is c.choice.ensures.choice in
-    event_admitted c.args.self.now c.args.lane kind.Nack c.in-Some.worker found
-
-pub did-requires-in-Flag-clause-admitted : goal.did-requires-in-Flag-clause-admitted
-did-requires-in-Flag-clause-admitted g c =
-    let found = is_found c.args.self.now c.args.lane c.in-Some.worker kind.Flag c.in-Some.kind c.choice.result c.in-Some.is c.in-Flag.is c.choice.ensures.choice in
-    event_admitted c.args.self.now c.args.lane kind.Flag c.in-Some.worker found
-
-pub did-requires-in-Hold-clause-admitted : goal.did-requires-in-Hold-clause-admitted
-did-requires-in-Hold-clause-admitted g c =
-    let found = is_found c.args.self.now c.args.lane c.in-Some.worker kind.Hold c.in-Some.kind c.choice.result c.in-Some.is c.in-Hold.is c.choice.ensures.choice in
-    event_admitted c.args.self.now c.args.lane kind.Hold c.in-Some.worker found
-
-pub returns-in-Mark-clause-chosen : goal.returns-in-Mark-clause-chosen
-returns-in-Mark-clause-chosen g c =
-    let found = is_found c.args.self.now c.args.lane c.in-Some.worker kind.Mark c.in-Some.kind c.choice.result c.in-Some.is c.in-Mark.is c.choice.ensures.choice in
-    did_chosen c.args.self.now c.args.lane c.in-Some.worker kind.Mark (Mark c.in-Some.worker) refl refl found c.mark.result c.mark.new.self c.mark.ensures.did
-
-pub returns-in-Take-clause-chosen : goal.returns-in-Take-clause-chosen
-returns-in-Take-clause-chosen g c =
-    let found = is_found c.args.self.now c.args.lane c.in-Some.worker kind.Take c.in-Some.kind c.choice.result c.in-Some.is c.in-Take.is c.choice.ensures.choice in
-    take_chosen c.args.self.now c.args.lane c.in-Some.worker found c.take.result c.take.new.self c.take.ensures.taken
-
-pub returns-in-Take-clause-ready : goal.returns-in-Take-clause-ready
-returns-in-Take-clause-ready g c =
-    let found = is_found c.args.self.now c.args.lane c.in-Some.worker kind.Take c.in-Some.kind c.choice.result c.in-Some.is c.in-Take.is c.choice.ensures.choice in
-    take_ready c.args.self.now c.args.lane c.in-Some.worker found c.choice.ensures.hub c.take.result c.take.new.self c.take.ensures.taken
-
-pub returns-in-Stretch-clause-chosen : goal.returns-in-Stretch-clause-chosen
-returns-in-Stretch-clause-chosen g c =
-    let found = is_found c.args.self.now c.args.lane c.in-Some.worker kind.Stretch c.in-Some.kind c.choice.result c.in-Some.is c.in-Stretch.is c.choice.ensures.choice in
-    stretch_chosen c.args.self.now c.args.lane c.in-Some.worker found c.stretch.result c.stretch.new.self c.stretch.ensures.stretched
-
-pub returns-in-Ack-clause-chosen : goal.returns-in-Ack-clause-chosen
-returns-in-Ack-clause-chosen g c =
-    let found = is_found c.args.self.now c.args.lane c.in-Some.worker kind.Ack c.in-Some.kind c.choice.result c.in-Some.is c.in-Ack.is c.choice.ensures.choice in
-    did_chosen c.args.self.now c.args.lane c.in-Some.worker kind.Ack (Ack c.in-Some.worker) refl refl found c.did.result c.did.new.self c.did.ensures.did
-
-pub returns-in-Nack-clause-chosen : goal.returns-in-Nack-clause-chosen
-returns-in-Nack-clause-chosen g c =
-    let found = is_found c.args.self.now c.args.lane c.in-Some.worker kind.Nack c.in-Some.kind c.choice.result c.in-Some.is c.in-Nack.is c.choice.ensures.choice in
-    did_chosen c.args.self.now c.args.lane c.in-Some.worker kind.Nack (Nack c.in-Some.worker) refl refl found c.did-in-Nack.result c.did-in-Nack.new.self c.did-in-Nack.ensures.did
-
-pub returns-in-Flag-clause-chosen : goal.returns-in-Flag-clause-chosen
-returns-in-Flag-clause-chosen g c =
-    let found = is_found c.args.self.now c.args.lane c.in-Some.worker kind.Flag c.in-Some.kind c.choice.result c.in-Some.is c.in-Flag.is c.choice.ensures.choice in
-    did_chosen c.args.self.now c.args.lane c.in-Some.worker kind.Flag (Flag c.in-Some.worker) refl refl found c.did-in-Flag.result c.did-in-Flag.new.self c.did-in-Flag.ensures.did
-
-pub returns-in-Hold-clause-chosen : goal.returns-in-Hold-clause-chosen
-returns-in-Hold-clause-chosen g c =
-    let found = is_found c.args.self.now c.args.lane c.in-Some.worker kind.Hold c.in-Some.kind c.choice.result c.in-Some.is c.in-Hold.is c.choice.ensures.choice in
-    did_chosen c.args.self.now c.args.lane c.in-Some.worker kind.Hold (Hold c.in-Some.worker) refl refl found c.did-in-Hold.result c.did-in-Hold.new.self c.did-in-Hold.ensures.did
+pub returns-clause-hub : goal.returns-clause-hub
+returns-clause-hub g c = let k = keeps g c in k.stands

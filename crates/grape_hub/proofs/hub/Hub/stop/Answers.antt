@@ -1,25 +1,33 @@
-use Rattle.std.proofs.Common.{refl, sym, ◌∙◌}
-use Rattle.grape_hub.specs.HubValues.{HubValues}
-use Rattle.grape_hub.specs.Desks.{Tables}
-use Rattle.grape_hub.proofs.Takings.{stopped_hub, stopped_tables}
+use Rattle.std.proofs.Common.{◌≡◌, refl, subst}
+use Rattle.grape_event.specs.declared.event.Event.TheVariants.{Stop}
+use Rattle.grape_hub.specs.LanedHub.{LanedHub}
+use Rattle.grape_hub.specs.Notes.{note_of, OthersStay}
+use Rattle.grape_hub.proofs.LanesKept.{duty_unless_keeps, stop_is_told}
 use Rattle.grape_hub.proofs.hub.Hub.stop.Goals as goal
+
+pub returns-clause-memory : goal.returns-clause-memory
+returns-clause-memory g c is k =
+    let x : LanedHub = record { hub = c.self.inside.engine; lanes = c.self.inside.lanes.items } in
+    let y : LanedHub = record { hub = c.stop.new.self; lanes = c.self.inside.lanes.items } in
+    subst (λ (v : LanedHub). note_of y k ≡ note_of v k) c.self.view_is (stop_is_told x y c.args.cause c.self.invariant.0.0 c.stop.ensures.stopped refl is k)
 
 pub invariant_of-self : goal.invariant_of-self
 invariant_of-self g c =
-    let old : HubValues = record { job = c.self.inside.job; counters = g.P.Pie.counters_for c.self.inside.job; start = c.self.inside.start; journal = c.self.inside.journal } in
-    let new : HubValues = record { job = c.self.inside.job; counters = g.P.Pie.counters_for c.self.inside.job; start = c.self.inside.start; journal = c.push.new.self } in
-    let t : Tables = record { routes = c.self.inside.routes.items; desks = c.self.inside.desks.items; probe = c.self.inside.probe; cut = c.self.inside.cut; counts = c.self.inside.counts; turn = c.self.inside.turn } in
-    let going = sym c.ended.ensures ∙ c.if-ended.false in (
-      c.self.invariant.0,
-      stopped_hub old new t c.args.cause c.self.invariant.1 c.self.invariant.2 going (refl, refl, c.push.ensures.events, refl),
-      stopped_tables old new t c.args.cause c.self.invariant.1 c.self.invariant.2 going (refl, refl, c.push.ensures.events, refl),
-      c.self.invariant.3,
-      c.self.invariant.4,
-    )
+    let x : LanedHub = record { hub = c.self.inside.engine; lanes = c.self.inside.lanes.items } in
+    let y : LanedHub = record { hub = c.stop.new.self; lanes = c.self.inside.lanes.items } in
+    let keeps = duty_unless_keeps x y (Stop c.args.cause) c.self.invariant.0 c.stop.ensures.hub c.stop.ensures.stopped tt refl in
+    (keeps.stands, keeps.given c.self.inside.given_up.items c.self.invariant.1)
+
+pub returns-clause-others : goal.returns-clause-others
+returns-clause-others g c =
+    let x : LanedHub = record { hub = c.self.inside.engine; lanes = c.self.inside.lanes.items } in
+    let y : LanedHub = record { hub = c.stop.new.self; lanes = c.self.inside.lanes.items } in
+    let keeps = duty_unless_keeps x y (Stop c.args.cause) c.self.invariant.0 c.stop.ensures.hub c.stop.ensures.stopped tt refl in
+    subst (λ (v : LanedHub). OthersStay v v.hub.job.settings.lanes y) c.self.view_is keeps.others
 
 pub returns-clause-hub : goal.returns-clause-hub
 returns-clause-hub g c =
-    let old : HubValues = record { job = c.self.inside.job; counters = g.P.Pie.counters_for c.self.inside.job; start = c.self.inside.start; journal = c.self.inside.journal } in
-    let new : HubValues = record { job = c.self.inside.job; counters = g.P.Pie.counters_for c.self.inside.job; start = c.self.inside.start; journal = c.push.new.self } in
-    let t : Tables = record { routes = c.self.inside.routes.items; desks = c.self.inside.desks.items; probe = c.self.inside.probe; cut = c.self.inside.cut; counts = c.self.inside.counts; turn = c.self.inside.turn } in
-    stopped_hub old new t c.args.cause c.self.invariant.1 c.self.invariant.2 (sym c.ended.ensures ∙ c.if-ended.false) (refl, refl, c.push.ensures.events, refl)
+    let x : LanedHub = record { hub = c.self.inside.engine; lanes = c.self.inside.lanes.items } in
+    let y : LanedHub = record { hub = c.stop.new.self; lanes = c.self.inside.lanes.items } in
+    let keeps = duty_unless_keeps x y (Stop c.args.cause) c.self.invariant.0 c.stop.ensures.hub c.stop.ensures.stopped tt refl in
+    keeps.stands

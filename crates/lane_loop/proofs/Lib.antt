@@ -1,0 +1,3 @@
+pub mod Beginnings
+pub mod Parts
+pub mod Steps
