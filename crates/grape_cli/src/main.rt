@@ -1,8 +1,10 @@
 //! The program `grape`: standard input, output and error as the ports of one run.
 #![tactic(auto)]
 
+use delay_stretch::{Pacer, Seeded};
 use grape_port::{NoMemory, StdSink, StdSource};
 use grape_run::{Status, Words, code, grape};
+use lane_loop::OpenGate;
 use std::process::ExitCode;
 use std::rt::Env;
 use std::{env, io};
@@ -21,16 +23,34 @@ fn command_words(rt: &(impl Env + AllocGlobal)) -> Result<Words, NoMemory> {
     Ok(words)
 }
 
+/// How the program ends where its own making finds no memory.
+fn no_memory() -> ExitCode {
+    ExitCode::from(code(&Status::NoMemory))
+}
+
 fn main(rt: HostRuntime) -> ExitCode {
-    let status = match command_words(&rt) {
-        Ok(words) => grape(
-            rt.alloc(),
-            &words,
-            &mut StdSource::new(rt.stdin()),
-            &mut StdSink::new(rt.stdout()),
-            &mut StdSink::new(rt.stderr()),
-        ),
-        Err(NoMemory) => Status::NoMemory,
+    let Ok(words) = command_words(&rt) else {
+        return no_memory();
     };
-    ExitCode::from(code(&status))
+    // a pacer for each fragment that there may be, seeded with its number
+    let mut pacers: Vec<Box<dyn Pacer + Send>> = Vec::new(rt.alloc());
+    'pacers: for number in 0..64 {
+        let Ok(pacer) = Box::new(rt.alloc(), Seeded::new(number)) else {
+            return no_memory();
+        };
+        let Ok(()) = pacers.push(pacer) else {
+            return no_memory();
+        };
+    }
+    let finish = grape(
+        &rt,
+        rt.alloc(),
+        &words,
+        &mut StdSource::new(rt.stdin()),
+        &mut StdSink::new(rt.stdout()),
+        &mut StdSink::new(rt.stderr()),
+        pacers,
+        &OpenGate,
+    );
+    ExitCode::from(code(&finish.status))
 }

@@ -1,5 +1,6 @@
 -- The values of a run that is done are the answer.
-use Rattle.std.proofs.Common.{◌≡◌, sym, ◌∙◌, ap, subst, List, Result, Ok, Err, IfOk}
+use Rattle.std.proofs.Common.{ℕ, sym, ◌∙◌, ap, subst, List, ◌++◌, Option, Some, None, Ok}
+use Rattle.std.proofs.lemmas.List.{append-nil}
 use Rattle.graph_core.specs.declared.job.Job.{Job}
 use Rattle.graph_core.specs.Graphs.{IsJob}
 use Rattle.graph_core.specs.Meaning.{IsValue}
@@ -8,11 +9,13 @@ use Rattle.graph_core.proofs.Cutting.{fragments_cut}
 use Rattle.graph_core.proofs.Greatest.{greatest_is_there}
 use Rattle.graph_core.proofs.Lawful.{lawful}
 use Rattle.graph_core.proofs.Values.{job-meaning}
+use Rattle.graph_text.specs.Input.{input_of}
 use Rattle.pie_core.specs.Locals.{LocalValues}
 use Rattle.answer_text.specs.AnswerTable.{AnswerTable}
 use Rattle.answer_text.specs.AnswerText.{answer_text, kind_of, IsAnswerText}
 use Rattle.answer_text.specs.Assembled.{IsAssembled}
 use Rattle.grape_run.specs.Answered.{AreGreatest}
+use Rattle.grape_run.specs.Runs.{ReadsJob, IsInputOf, IsAnswerFor}
 
 pub assembled_is_answer : (job : Job) (locals : List LocalValues) (table : AnswerTable) → IsJob job → AreGreatest job locals → IsAssembled job locals table → IsAnswerText job (answer_text table.kind table.rows)
 assembled_is_answer job locals table h greatest made =
@@ -26,12 +29,10 @@ assembled_is_answer job locals table h greatest made =
       spelled = ap (λ k. answer_text k table.rows) made.kind ∙ ap (λ r. answer_text (kind_of job.query) r) made.rows;
     }
 
-if_ok_since : {T E : Type 0} (P Q : T → Type 0) (r : Result T E) → ((x : T) → P x → Q x) → IfOk r P → IfOk r Q
-if_ok_since P Q (Ok x) h p = h x p
-if_ok_since P Q (Err e) h p = tt
+is_input : (told after : Option (List ℕ)) (job : Job) → ReadsJob told after (Ok job) → IsInputOf told job
+is_input None after job h = tt
+is_input (Some text) after job h = ap input_of (h.2 ∙ ap (λ r. h.0 ++ r) h.4.0 ∙ append-nil h.0) ∙ h.4.1
 
-pub assembled_answers : {E : Type 0} (job : Job) (locals slice : List LocalValues) (r : Result AnswerTable E) → IsJob job → slice ≡ locals → AreGreatest job locals → IfOk r (IsAssembled job slice) →
-    IfOk r (λ table. IsAnswerText job (answer_text table.kind table.rows))
-assembled_answers job locals slice r h same greatest made =
-    if_ok_since (IsAssembled job slice) (λ table. IsAnswerText job (answer_text table.kind table.rows)) r
-    (λ table m. assembled_is_answer job slice table h (subst (AreGreatest job) (sym same) greatest) m) made
+-- the answer of the job that was read
+pub answer_for : (told after : Option (List ℕ)) (job : Job) (answer : List ℕ) → ReadsJob told after (Ok job) → IsJob job → IsAnswerText job answer → IsAnswerFor told answer
+answer_for told after job answer read within is = record { job = job; within = within; is_input = is_input told after job read; is_answer = is }

@@ -1,11 +1,15 @@
 ghost use Rattle.std.specs.Prelude.{◌≤◌};
 
+use crate::lane_tests::{Answers, pacers_of};
 use crate::notes::write_note;
 use crate::{Status, Words, code, grape};
 use grape_port::{MemSink, MemSource, NoMemory};
 use graph_text::Why;
+use lane_loop::OpenGate;
 use std::alloc::Global;
+use std::sync::Wait;
 use std::test::Fail;
+use std::thread::Threads;
 
 // The tables stand in functions of their own, so that the proofs of the tests don't see their bytes.
 
@@ -100,95 +104,28 @@ fn cut_table() -> [(&'static [u8], &'static [u8]); 8] {
     ]
 }
 
-fn bad_table() -> [(&'static [u8], Status, &'static [u8]); 19] {
+/// Texts with their first bad line, why it is bad, and the end of its note.
+fn bad_table() -> [(&'static [u8], u64, Why, &'static [u8]); 19] {
     [
-        (
-            b"query dist 0\n0 4294967296\n",
-            bad(2, Why::Range),
-            b"grape: input line 2: range\n",
-        ),
-        (
-            b"query dist 9\n1 2\n",
-            bad(3, Why::NoSource),
-            b"grape: input line 3: no-source\n",
-        ),
-        (
-            b"",
-            bad(1, Why::NoQuery),
-            b"grape: input line 1: no-query\n",
-        ),
-        (b"hello", bad(1, Why::Word), b"grape: input line 1: word\n"),
-        (
-            b"query foo\n",
-            bad(1, Why::Word),
-            b"grape: input line 1: word\n",
-        ),
-        (
-            b"query\n",
-            bad(1, Why::Count),
-            b"grape: input line 1: count\n",
-        ),
-        (b"1\n", bad(1, Why::Count), b"grape: input line 1: count\n"),
-        (
-            b"1 2 3 4\n",
-            bad(1, Why::Count),
-            b"grape: input line 1: count\n",
-        ),
-        (
-            b"1 x\n",
-            bad(1, Why::Number),
-            b"grape: input line 1: number\n",
-        ),
-        (
-            b"12a 3\n",
-            bad(1, Why::Number),
-            b"grape: input line 1: number\n",
-        ),
-        (
-            b"query dist 1\nquery dist 1\n",
-            bad(2, Why::Twice),
-            b"grape: input line 2: twice\n",
-        ),
-        (
-            b"\0\x01\xff\xfe\n\x80\0\n",
-            bad(1, Why::Word),
-            b"grape: input line 1: word\n",
-        ),
-        (
-            b"query dist 1\n1 2\nhello\n1 x\n",
-            bad(3, Why::Word),
-            b"grape: input line 3: word\n",
-        ),
-        (
-            b"query dist 1\n1 2\n1 -2\n",
-            bad(3, Why::Number),
-            b"grape: input line 3: number\n",
-        ),
-        (
-            b"query reach 9\n1 2\n",
-            bad(3, Why::NoSource),
-            b"grape: input line 3: no-source\n",
-        ),
-        (
-            b"fragments 65\n",
-            bad(1, Why::Range),
-            b"grape: input line 1: range\n",
-        ),
-        (
-            b"fragments 2\nfragments 2\n",
-            bad(2, Why::Twice),
-            b"grape: input line 2: twice\n",
-        ),
-        (
-            b"v 3\nv 3\n",
-            bad(2, Why::Twice),
-            b"grape: input line 2: twice\n",
-        ),
-        (
-            b"query dist 1\ncut foo\n",
-            bad(2, Why::Word),
-            b"grape: input line 2: word\n",
-        ),
+        (b"query dist 0\n0 4294967296\n", 2, Why::Range, b"2: range"),
+        (b"query dist 9\n1 2\n", 3, Why::NoSource, b"3: no-source"),
+        (b"", 1, Why::NoQuery, b"1: no-query"),
+        (b"hello", 1, Why::Word, b"1: word"),
+        (b"query foo\n", 1, Why::Word, b"1: word"),
+        (b"query\n", 1, Why::Count, b"1: count"),
+        (b"1\n", 1, Why::Count, b"1: count"),
+        (b"1 2 3 4\n", 1, Why::Count, b"1: count"),
+        (b"1 x\n", 1, Why::Number, b"1: number"),
+        (b"12a 3\n", 1, Why::Number, b"1: number"),
+        (b"query dist 1\nquery dist 1\n", 2, Why::Twice, b"2: twice"),
+        (b"\0\x01\xff\xfe\n\x80\0\n", 1, Why::Word, b"1: word"),
+        (b"query dist 1\n1 2\nhello\n1 x\n", 3, Why::Word, b"3: word"),
+        (b"query dist 1\n1 2\n1 -2\n", 3, Why::Number, b"3: number"),
+        (b"query reach 9\n1 2\n", 3, Why::NoSource, b"3: no-source"),
+        (b"fragments 65\n", 1, Why::Range, b"1: range"),
+        (b"fragments 2\nfragments 2\n", 2, Why::Twice, b"2: twice"),
+        (b"v 3\nv 3\n", 2, Why::Twice, b"2: twice"),
+        (b"query dist 1\ncut foo\n", 2, Why::Word, b"2: word"),
     ]
 }
 
@@ -231,9 +168,9 @@ struct Outcome {
     note: MemSink,
 }
 
-/// Runs with ports that move at most `most` bytes at once, whose calls with these numbers fail.
-fn run_of(
-    alloc: Global,
+/// Runs with ports that move at most `most` bytes at once, whose calls with these numbers fail, and with calm pacers.
+fn run_of<R: Threads + Wait + Sync + AllocGlobal>(
+    rt: &R,
     words: &str,
     text: &[u8],
     most: usize,
@@ -241,6 +178,7 @@ fn run_of(
 ) -> Result<Outcome, NoMemory>
     requires { 1 ≤ most }
 {
+    let alloc = rt.alloc();
     let words = words_of(alloc, words)?;
     let [read, write, note_write] = fails;
     let mut input = MemSource::new(
@@ -250,17 +188,21 @@ fn run_of(
     );
     let mut out = MemSink::new(alloc, 4096, most, Vec::from_slice(alloc, &[write])?)?;
     let mut note = MemSink::new(alloc, 4096, most, Vec::from_slice(alloc, &[note_write])?)?;
-    let status = grape(alloc, &words, &mut input, &mut out, &mut note);
+    let pacers = pacers_of(alloc, &Answers::Calm)?;
+    let finish = grape(
+        rt, alloc, &words, &mut input, &mut out, &mut note, pacers, &OpenGate,
+    );
+    let status = finish.status;
     Ok(Outcome { status, out, note })
 }
 
 #[test]
 fn answers(rt: HostRuntime) -> Result<(), Fail> {
     for (text, want) in answer_table() {
-        let byte_by_byte = run_of(rt.alloc(), "run", text, 1, [0, 0, 0])?;
+        let byte_by_byte = run_of(&rt, "run", text, 1, [0, 0, 0])?;
         assert_eq!(rt; byte_by_byte.status, Status::Done, "of {text:?}");
         assert_eq!(rt; byte_by_byte.out.bytes(), want, "of {text:?}");
-        let at_once = run_of(rt.alloc(), "run", text, 100_000, [0, 0, 0])?;
+        let at_once = run_of(&rt, "run", text, 100_000, [0, 0, 0])?;
         assert_eq!(rt; at_once.status, Status::Done, "of {text:?}");
         assert_eq!(rt; at_once.out.bytes(), want, "of {text:?}");
         assert!(rt; at_once.note.bytes().is_empty());
@@ -282,7 +224,7 @@ fn answers_on_fragments(rt: HostRuntime) -> Result<(), Fail> {
     for settings in settings_table() {
         for (text, want) in cut_table() {
             let whole = joined(rt.alloc(), settings, text)?;
-            let run = run_of(rt.alloc(), "run", &whole, 100, [0, 0, 0])?;
+            let run = run_of(&rt, "run", &whole, 100, [0, 0, 0])?;
             assert_eq!(rt; run.status, Status::Done, "of {whole:?}");
             assert_eq!(rt; run.out.bytes(), want, "of {whole:?}");
             assert!(rt; run.note.bytes().is_empty());
@@ -293,11 +235,16 @@ fn answers_on_fragments(rt: HostRuntime) -> Result<(), Fail> {
 
 #[test]
 fn bad_inputs(rt: HostRuntime) -> Result<(), Fail> {
-    for (text, want, line) in bad_table() {
-        let run = run_of(rt.alloc(), "run", text, 7, [0, 0, 0])?;
-        assert_eq!(rt; run.status, want, "of {text:?}");
+    for (text, line, why, end) in bad_table() {
+        let run = run_of(&rt, "run", text, 7, [0, 0, 0])?;
+        assert_eq!(rt; run.status, bad(line, why), "of {text:?}");
         assert!(rt; run.out.bytes().is_empty());
-        assert_eq!(rt; run.note.bytes(), line, "of {text:?}");
+        let note = joined(rt.alloc(), b"grape: input line ", end)?;
+        assert_eq!(rt;
+            run.note.bytes(),
+            joined(rt.alloc(), &note, b"\n")?.as_slice(),
+            "of {text:?}"
+        );
     }
     Ok(())
 }
@@ -305,7 +252,7 @@ fn bad_inputs(rt: HostRuntime) -> Result<(), Fail> {
 #[test]
 fn bad_words(rt: HostRuntime) -> Result<(), Fail> {
     for words in word_table() {
-        let run = run_of(rt.alloc(), words, detour(), 8, [1, 1, 0])?;
+        let run = run_of(&rt, words, detour(), 8, [1, 1, 0])?;
         assert_eq!(rt; run.status, Status::BadWords, "of {words}");
         assert_eq!(rt; code(&run.status), 2);
         assert!(rt; run.out.bytes().is_empty());
@@ -315,16 +262,16 @@ fn bad_words(rt: HostRuntime) -> Result<(), Fail> {
 
 #[test]
 fn failing_reads_and_writes(rt: HostRuntime) -> Result<(), Fail> {
-    let read = run_of(rt.alloc(), "run", detour(), 8, [2, 0, 0])?;
+    let read = run_of(&rt, "run", detour(), 8, [2, 0, 0])?;
     assert_eq!(rt; read.status, Status::ReadFault);
     assert!(rt; read.out.bytes().is_empty());
-    let write = run_of(rt.alloc(), "run", detour(), 4, [0, 3, 3])?;
+    let write = run_of(&rt, "run", detour(), 4, [0, 3, 3])?;
     assert_eq!(rt; write.status, Status::WriteFault);
     assert_eq!(rt; write.out.bytes(), b"answer d".as_slice());
     assert_eq!(rt; write.note.bytes(), b"grape: w".as_slice());
 
     // The eight writes of the 30 bytes pass, and the flush behind them fails.
-    let flush = run_of(rt.alloc(), "run", detour(), 4, [0, 9, 0])?;
+    let flush = run_of(&rt, "run", detour(), 4, [0, 9, 0])?;
     assert_eq!(rt; flush.status, Status::WriteFault);
     assert_eq!(rt; flush.out.bytes().len(), 30);
     Ok(())

@@ -5,8 +5,8 @@ use Rattle.grape_run.proofs.run.grape.Goals as goal
 
 pub returns-clause-complete : goal.returns-clause-complete
 returns-clause-complete g c = λ is_run no_read no_write.
-    ends c.run-status.result _ _ c.shown_is_first.ensures
-    (λ e. let none : mode_of c.args.words.now ≡ None = c.run-status.ensures.bad_words.0 e in cc)
-    (λ e. no_read (c.run-status.ensures.read_fault e))
-    (λ e. no_write (c.run-status.ensures.write_fault e))
-    c.run-status.ensures.read
+    ends c.run-finish.result.status _ _ c.shown_is_first.ensures
+    (λ e. let none : mode_of c.args.words.now ≡ None = c.run-finish.ensures.bad_words.0 e in cc)
+    (λ e. no_read (c.run-finish.ensures.read_fault e))
+    (λ e. no_write (c.run-finish.ensures.write_fault e))
+    c.run-finish.ensures.read

@@ -1,0 +1,35 @@
+ghost use Rattle.std.specs.Prelude.{◌≡◌, Some, None};
+
+use crate::status::Status;
+use coordinator::Story;
+
+/// How a command ended, with the story of its run where there was one.
+#[derive(Drop)]
+pub struct Finish {
+    pub status: Status,
+    /// There is one after `Done` and `WriteFault`, and none where the words or the input were refused. After `NoMemory`
+    /// there is one where the run had begun.
+    pub story: Option<Story>,
+}
+
+impl Finish {
+    /// A command that ended before its run began.
+    pub(crate) fn without_story(status: Status) -> Finish
+        ensures { result ≡ record { status = status; story = None } }
+    {
+        Finish {
+            status,
+            story: None,
+        }
+    }
+
+    /// A command whose run was done.
+    pub(crate) fn with_story(status: Status, story: Story) -> Finish
+        ensures { result ≡ record { status = status; story = Some story } }
+    {
+        Finish {
+            status,
+            story: Some(story),
+        }
+    }
+}
