@@ -33,7 +33,7 @@ pub record IsInForm (sys : System) (s : SnapshotParts) : Type 0 where
 abbrev pub IsBetween : System → Assignment → ℕ → ℕ → Type 0
 IsBetween sys g v x = Below sys.equations.order (g v) x × Below sys.equations.order x (sys.equations.start v)
 
--- A worker has a value for each place; running, a hand for each mirror; a queue for each sender; and mail for its mirrors alone.
+-- A worker has a value for each place; while it runs, a hand with no place past its mirrors; a queue for each sender; and mail for its mirrors alone.
 pub record HasShape (piece : Piece) (workers : ℕ) (w : Worker) : Type 0 where
   pub values : length w.values ≡ length (places piece)
   pub hand : length (hand_of w) ≤ length piece.mirrors

@@ -1,8 +1,8 @@
 //! How long a worker lets mail gather.
 //!
-//! Under the policy `Aap` a worker that has little mail waits for more. It promises that [`Pulse::stretch`] is the
-//! formula over the clocks of the last eight arrivals: for each batch that the worker lacks the mean gap between these
-//! arrivals, and at most 64 turns. A [`Pacer`] adds turns of its own, of which nothing is promised.
+//! Under the policy `Aap` a worker that has little mail waits for more. How long is [`Pulse::stretch`], a formula over
+//! the clocks of the last eight arrivals: the mean gap between them for each batch that the worker lacks, and at most 64
+//! turns. A [`Pacer`] adds turns of its own, and nothing is said of how many.
 #![tactic(auto)]
 
 mod calm;
