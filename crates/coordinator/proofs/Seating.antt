@@ -10,9 +10,11 @@ use Rattle.base_machine.specs.Machine.{system_of, fresh_snapshot}
 use Rattle.noted_lock.specs.declared.seat.LockSeat.{LockSeat}
 use Rattle.noted_lock.specs.Sights.{seat_lock, seat_number, seat_note, AreSeats}
 use Rattle.grape_hub.specs.LanedHub.{LanedHub, IsLanedHub, is_out_at}
-use Rattle.grape_hub.specs.Notes.{ground_of, ground_in, note_of, HasNoWork}
+use Rattle.grape_hub.specs.Notes.{ground_of, ground_in, own_in, note_of, HasNoWork}
 use Rattle.grape_hub.specs.Theorems.{GroundsTell, NotesBegin, EmptyIsFree}
 use Rattle.coordinator.specs.Seats.{ground_of_run, IsSeatOfRun, HoldsSeat, AreSeatsOfRun}
+use Rattle.coordinator.specs.Turns.{HasNoDiskStop}
+use Rattle.coordinator.proofs.Causes.{past_is_empty, tells_still}
 
 module _ {A : Type 0} (P : ℕ → A → Type 0) where
   abbrev pub EachAt : List A → Type 0
@@ -56,13 +58,14 @@ ground_is begin x job k same start = begin x k ∙ (λ t. ground_of (same t) (st
 
 -- all seats of a lock about a hub that has done nothing
 pub seats_begin : NotesBegin → EmptyIsFree → (z : TableId) (job : Job) (x : LanedHub) (count : ℕ) (seats : List LockSeat) → IsLanedHub x → x.hub.job ≡ job → x.hub.start ≡ fresh_snapshot (system_of job) → 0 < x.hub.job.settings.lanes →
-    is_out_at x 0 ≡ false → AreSeats z count (note_of x 0) seats → AreSeatsOfRun z job seats
-seats_begin begin empty z job x count seats stands same start some free are k d l =
+    is_out_at x 0 ≡ false → ((k : ℕ) → note_of x k ≡ note_of x 0) → AreSeats z count (note_of x 0) seats → AreSeatsOfRun z job seats
+seats_begin begin empty z job x count seats stands same start some free notes are k d l =
     let s = are.1 k d (omega (arith, l, are.0)) in record {
       lock = s.0;
       number = s.2;
       ground = ap (λ (note : List ℕ). ground_in note) s.3 ∙ ground_is begin x job 0 same start;
       empty = λ _. subst (λ (note : List ℕ). HasNoWork note) (sym s.3) ((empty x 0 stands some).1 free);
+      still = λ _. ap (λ (note : List ℕ). own_in note) (s.3 ∙ sym (notes (x.hub.job.settings.lanes + 1))) ∙ past_is_empty x (x.hub.job.settings.lanes + 1) (omega arith);
     }
 
 pub seats_of_lock : (z : TableId) (job : Job) (seats : List LockSeat) → AreSeatsOfRun z job seats → All (λ s. seat_lock s ≡ z) seats
@@ -79,12 +82,13 @@ hub_at_seat grounds begin z job k seat x is note =
 
 -- the coordinator's seat, with the note of a hub of the same job and start
 pub coordinator_seat : NotesBegin → (z : TableId) (job : Job) (seat : LockSeat) (x : LanedHub) → seat_lock seat ≡ z → seat_number seat ≡ job.settings.lanes → x.hub.job ≡ job → x.hub.start ≡ fresh_snapshot (system_of job) →
-    seat_note seat ≡ note_of x job.settings.lanes → IsSeatOfRun z job job.settings.lanes seat
-coordinator_seat begin z job seat x lock number same start note = record {
+    seat_note seat ≡ note_of x job.settings.lanes → own_in (note_of x job.settings.lanes) ≡ [] → IsSeatOfRun z job job.settings.lanes seat
+coordinator_seat begin z job seat x lock number same start note still = record {
   lock = lock;
   number = number;
   ground = ap (λ (ns : List ℕ). ground_in ns) note ∙ ground_is begin x job job.settings.lanes same start;
   empty = λ l. absurd (omega (arith, l));
+  still = λ _. ap (λ (ns : List ℕ). own_in ns) note ∙ still;
 }
 
 -- what the seats tell of the hub of a lock that is closed
@@ -92,6 +96,7 @@ pub record IsTold (j : Job) (x : LanedHub) : Type 0 where
   pub job : x.hub.job ≡ j
   pub start : x.hub.start ≡ fresh_snapshot (system_of j)
   pub free : (lane : ℕ) → lane < j.settings.lanes → is_out_at x lane ≡ false
+  pub disk : HasNoDiskStop x.hub
 
 module _ (z : TableId) (job : Job) (x : LanedHub) (seats : List LockSeat) (all : AreSeatsOfRun z job seats) (notes : All (λ s. note_of x (seat_number s) ≡ seat_note s) seats) where
   note_at : (k : ℕ) → k < length seats → (s : LockSeat) × IsSeatOfRun z job k s × (note_of x k ≡ seat_note s)
@@ -113,4 +118,7 @@ module _ (z : TableId) (job : Job) (x : LanedHub) (seats : List LockSeat) (all :
         free = λ lane l.
             let at = note_at lane (omega (arith, long, l)) in
             (empty x lane stands (subst (λ (j : Job). lane < j.settings.lanes) (sym same.0) l)).0 (subst (λ (note : List ℕ). HasNoWork note) (sym at.2) (at.1.empty l));
+        disk =
+            let at = note_at job.settings.lanes (omega (arith, long)) in
+            tells_still x job.settings.lanes (ap (λ (j : Job). j.settings.lanes) same.0) (ap (λ (note : List ℕ). own_in note) at.2 ∙ at.1.still refl);
       }

@@ -13,7 +13,7 @@ use Rattle.pie_core.specs.Solutions.{lowered, local_solution}
 use Rattle.pie_core.specs.Evaluations.{MayEvaluate}
 use Rattle.grape_event.specs.declared.event.Event.{Event}
 use Rattle.grape_event.specs.declared.event.Event.TheVariants.{Take, Give, Stretch, Hold, Flag, Ask, Ack, Nack, Begin, Mark, Seal, Kept, End, Stop}
-use Rattle.grape_event.specs.declared.event.StopCause.{StopCause}
+use Rattle.grape_event.specs.declared.event.StopCause.TheVariants.{Memory}
 use Rattle.grape_event.specs.Events.{is_take}
 use Rattle.token_cut.specs.Parts.{SnapshotParts}
 use Rattle.legal_journal.specs.Past.{has_ended}
@@ -25,11 +25,14 @@ use Rattle.grape_hub.specs.declared.work.Duty.TheVariants.{Did, Sealed}
 use Rattle.grape_hub.specs.HubValues.{HubValues}
 use Rattle.grape_hub.specs.States.{machine, state_of, IsHub}
 use Rattle.grape_hub.specs.Calls.{Appended, AppendedUnlessEnded, Unchanged, ChoosesDuty, IsWork}
+use Rattle.grape_hub.specs.Notes.{is_stopped_by_disk}
 use Rattle.grape_hub.specs.Theorems.{IsCalm, CalmAfterOther}
 use Rattle.grape_hub.specs.declared.lane_record.LaneRecord.{LaneRecord}
 use Rattle.grape_hub.specs.declared.work.Next.TheVariants.{Took}
 use Rattle.grape_hub.specs.LanedHub.{LanedHub, IsLanedHub, no_record, lane_at, is_out_at, after_answer, lanes_after_answer}
 use Rattle.grape_hub.proofs.Ready.{worker_in_range}
+use Rattle.coordinator.specs.Turns.{HasNoDiskStop}
+use Rattle.coordinator.proofs.Causes.{duty_no_disk, disk_after}
 
 -- the fragment of a Work is there, and is its worker's
 pub worker_has_part : (h : HubValues) (lane : ℕ) (fresh : Bool) (work : Work) (parts : List FragmentLists) → IsHub h → IsWork h lane fresh work → parts ≡ fragments_of h.job → work.worker < length parts
@@ -92,6 +95,7 @@ pub record IsLonger (old new : HubValues) : Type 0 where
   pub counters : new.counters ≡ old.counters
   pub start : new.start ≡ old.start
   pub calm : IsCalm new
+  pub disk : HasNoDiskStop new
   pub longer : length old.journal.events < length new.journal.events
 
 pub duty_done : DutiesAreExact → CalmAfterOther → (old new : HubValues) (r : Duty) → IsHub old → IsCalm old → ((e : Event) × (r ≡ Did e)) ⊎ ((epoch : ℕ) × (r ≡ Sealed epoch)) → ChoosesDuty old r new → IsHub new → IsLonger old new
@@ -102,6 +106,7 @@ duty_done exact other old new r hub calm (inl did) chosen hub-2 =
       counters = c.2.1;
       start = c.2.3;
       calm = other old new did.0 hub calm (duty_no_take did.0 ((exact (machine old) (state_of old)).0 did.0 c.0).1) c.2 hub-2;
+      disk = disk_after old new did.0 c.2 (duty_no_disk did.0 ((exact (machine old) (state_of old)).0 did.0 c.0).1);
       longer = longer old new did.0 c.2;
     }
 duty_done exact other old new r hub calm (inr sealed) chosen hub-2 =
@@ -111,6 +116,7 @@ duty_done exact other old new r hub calm (inr sealed) chosen hub-2 =
       counters = c.1.1;
       start = c.1.3;
       calm = other old new (Seal sealed.0) hub calm refl c.1 hub-2;
+      disk = disk_after old new (Seal sealed.0) c.1 refl;
       longer = longer old new (Seal sealed.0) c.1;
     }
 
@@ -132,35 +138,38 @@ took_is_out old new lane work stands inside same =
 
 -- ---- a Stop
 
--- what a Stop leaves, whether the journal had ended or not
+-- what a Stop for want of memory leaves, whether the journal had ended or not
 pub record IsStopped (old new : HubValues) : Type 0 where
   pub job : new.job ≡ old.job
   pub counters : new.counters ≡ old.counters
   pub start : new.start ≡ old.start
   pub calm : IsCalm new
+  pub disk : HasNoDiskStop new
   pub ended : has_ended (reverse new.journal.events) ≡ true
 
-stopped_if : (had : Bool) → CalmAfterOther → (old new : HubValues) (cause : StopCause) → has_ended (reverse old.journal.events) ≡ had → IsHub old → IsCalm old → MatchBool had (new ≡ old) (Appended old (Stop cause) new) → IsHub new → IsStopped old new
-stopped_if true other old new cause had hub calm same hub-2 = record {
+stopped_if : (had : Bool) → CalmAfterOther → (old new : HubValues) → has_ended (reverse old.journal.events) ≡ had → IsHub old → IsCalm old → HasNoDiskStop old → MatchBool had (new ≡ old) (Appended old (Stop Memory) new) → IsHub new → IsStopped old new
+stopped_if true other old new had hub calm disk same hub-2 = record {
   job = ap (λ (h : HubValues). h.job) same;
   counters = ap (λ (h : HubValues). h.counters) same;
   start = ap (λ (h : HubValues). h.start) same;
   calm = subst (λ (h : HubValues). IsCalm h) (sym same) calm;
+  disk = subst (λ (h : HubValues). HasNoDiskStop h) (sym same) disk;
   ended = ap (λ (h : HubValues). has_ended (reverse h.journal.events)) same ∙ had;
 }
-stopped_if false other old new cause had hub calm more hub-2 = record {
+stopped_if false other old new had hub calm disk more hub-2 = record {
   job = more.0;
   counters = more.1;
   start = more.3;
-  calm = other old new (Stop cause) hub calm refl more hub-2;
-  ended = ap (λ (es : List Event). has_ended (reverse es)) more.2 ∙ ap (λ (es : List Event). has_ended es) (reverse-append old.journal.events (Stop cause ∷ []));
+  calm = other old new (Stop Memory) hub calm refl more hub-2;
+  disk = disk_after old new (Stop Memory) more refl;
+  ended = ap (λ (es : List Event). has_ended (reverse es)) more.2 ∙ ap (λ (es : List Event). has_ended es) (reverse-append old.journal.events (Stop Memory ∷ []));
 }
 
-stopped : CalmAfterOther → (old new : HubValues) (cause : StopCause) → IsHub old → IsCalm old → AppendedUnlessEnded old (Stop cause) new → IsHub new → IsStopped old new
-stopped other old new cause hub calm after hub-2 = stopped_if (has_ended (reverse old.journal.events)) other old new cause refl hub calm after hub-2
+stopped : CalmAfterOther → (old new : HubValues) → IsHub old → IsCalm old → HasNoDiskStop old → AppendedUnlessEnded old (Stop Memory) new → IsHub new → IsStopped old new
+stopped other old new hub calm disk after hub-2 = stopped_if (has_ended (reverse old.journal.events)) other old new refl hub calm disk after hub-2
 
 -- a Stop where a call for which there was no memory has changed nothing
-pub stopped_unchanged : CalmAfterOther → (old between new : HubValues) (cause : StopCause) → IsCalm old → Unchanged old between → IsHub between → AppendedUnlessEnded between (Stop cause) new → IsHub new → IsStopped old new
-stopped_unchanged other old between new cause calm same hub after hub-2 =
-    let s = stopped other between new cause hub (calm_unchanged old between same calm) after hub-2 in
-    record { job = s.job ∙ same.0; counters = s.counters ∙ same.1; start = s.start ∙ same.3; calm = s.calm; ended = s.ended }
+pub stopped_unchanged : CalmAfterOther → (old between new : HubValues) → IsCalm old → HasNoDiskStop old → Unchanged old between → IsHub between → AppendedUnlessEnded between (Stop Memory) new → IsHub new → IsStopped old new
+stopped_unchanged other old between new calm disk same hub after hub-2 =
+    let s = stopped other between new hub (calm_unchanged old between same calm) (ap (λ (es : List Event). is_stopped_by_disk (reverse es)) same.2 ∙ disk) after hub-2 in
+    record { job = s.job ∙ same.0; counters = s.counters ∙ same.1; start = s.start ∙ same.3; calm = s.calm; disk = s.disk; ended = s.ended }

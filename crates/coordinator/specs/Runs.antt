@@ -11,6 +11,7 @@ use Rattle.pie_core.specs.Locals.{LocalValues}
 use Rattle.answer_text.specs.Assembled.{FitParts, values_at}
 use Rattle.grape_event.specs.declared.event.Event.{Event}
 use Rattle.grape_event.specs.declared.event.Event.TheVariants.{End, Stop}
+use Rattle.grape_event.specs.declared.event.StopCause.TheVariants.{Memory}
 use Rattle.grape_event.specs.Events.{is_last}
 use Rattle.base_machine.specs.Machine.{system_of, fresh_snapshot}
 use Rattle.legal_journal.specs.Legal.{state_at_end, IsLegal}
@@ -38,10 +39,10 @@ pub record AreLocalsOf (job : Job) (fragments : List FragmentLists) (story : Sto
   pub owned : AllZip (λ part local. length local.before ≡ length part.owned) fragments locals
   pub values : AllZip (λ local w. local.values ≡ w.values) locals (state_at_end (system_of job) story.start story.journal.events).workers
 
--- How a run of a job on its fragments ended: its journal is legal from the beginning, and ends by End exactly where it is done.
+-- How a run of a job on its fragments ended: its journal is legal from the beginning, and ends by End exactly where it is done. It is stopped for want of memory alone.
 abbrev pub HasRun : Job → List FragmentLists → Ran → Type 0
 HasRun job fragments (Done locals story) = IsStoryOf job story × EndsBy End story.journal.events × AreLocalsOf job fragments story locals.items
-HasRun job fragments (Stopped cause story) = IsStoryOf job story × EndsBy (Stop cause) story.journal.events
+HasRun job fragments (Stopped cause story) = IsStoryOf job story × EndsBy (Stop cause) story.journal.events × (cause ≡ Memory)
 HasRun job fragments NoMemory = ⊤
 
 -- ---- what the end means

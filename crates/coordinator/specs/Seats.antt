@@ -1,22 +1,23 @@
 -- What the seats of a run say while its lanes share the hub.
-use Rattle.std.specs.Prelude.{◌≡◌, ℕ, ◌+◌, ◌<◌, List, Option, Some, None, length, slice_index_or}
+use Rattle.std.specs.Prelude.{◌≡◌, ℕ, ◌+◌, ◌<◌, List, [], Option, Some, None, length, slice_index_or}
 use Rattle.graph_core.specs.declared.job.Job.{Job}
 use Rattle.atomic_table.specs.Seated.{TableId}
 use Rattle.base_machine.specs.Machine.{system_of, fresh_snapshot}
 use Rattle.noted_lock.specs.declared.seat.LockSeat.{LockSeat}
 use Rattle.noted_lock.specs.Sights.{seat_lock, seat_number, seat_note}
-use Rattle.grape_hub.specs.Notes.{ground_of, ground_in, HasNoWork}
+use Rattle.grape_hub.specs.Notes.{ground_of, ground_in, own_in, HasNoWork}
 
 -- the ground of a run of the job from the beginning
 abbrev pub ground_of_run : Job → List ℕ
 ground_of_run job = ground_of job (fresh_snapshot (system_of job))
 
--- The seat k of the lock z, in a run of the job: that of lane k with no Work out, or the coordinator's, whose number is the count of the lanes.
+-- The seat k of the lock z, in a run of the job: that of lane k with no Work out, or the coordinator's, whose number is the count of the lanes, and in whose note nothing is sealed and the disk didn't stop the run.
 pub record IsSeatOfRun (z : TableId) (job : Job) (k : ℕ) (seat : LockSeat) : Type 0 where
   pub lock : seat_lock seat ≡ z
   pub number : seat_number seat ≡ k
   pub ground : ground_in (seat_note seat) ≡ ground_of_run job
   pub empty : k < job.settings.lanes → HasNoWork (seat_note seat)
+  pub still : k ≡ job.settings.lanes → own_in (seat_note seat) ≡ []
 
 -- a slot in which this seat lies
 abbrev pub HoldsSeat : TableId → Job → ℕ → Option LockSeat → Type 0

@@ -6,10 +6,15 @@ use Rattle.grape_hub.specs.HubValues.{HubValues}
 use Rattle.lane_loop.specs.declared.served.Served.{Served}
 use Rattle.lane_loop.specs.declared.served.Served.TheVariants.{Did, Idle, Ended, NoMemory}
 use Rattle.grape_hub.specs.States.{machine, state_of, sealed_epoch}
+use Rattle.grape_hub.specs.Notes.{is_stopped_by_disk}
 
 -- Where the run goes on there is an event more, and where it doesn't the journal has ended.
 abbrev pub GoesOn : Bool → HubValues → HubValues → Type 0
 GoesOn goes_on old new = MatchBool goes_on (length old.journal.events < length new.journal.events) (has_ended (reverse new.journal.events) ≡ true)
+
+-- The disk didn't stop the run.
+abbrev pub HasNoDiskStop : HubValues → Type 0
+HasNoDiskStop h = is_stopped_by_disk (reverse h.journal.events) ≡ false
 
 -- The journal hasn't ended, what is sealed is kept, and the coordinator has nothing to do.
 abbrev pub HasNoDuty : HubValues → Type 0

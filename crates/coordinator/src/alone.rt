@@ -7,6 +7,7 @@ ghost use Rattle.grape_hub.specs.LanedHub.{IsLanedHub, is_out_at};
 ghost use Rattle.grape_hub.specs.Theorems.{IsCalm};
 ghost use Rattle.coordinator.specs.Shapes.{shape_of};
 ghost use Rattle.coordinator.specs.Runs.{HasRun, LastEvent};
+ghost use Rattle.coordinator.specs.Turns.{HasNoDiskStop};
 
 use crate::kept_at::KeptAt;
 use crate::ran::Ran;
@@ -120,6 +121,7 @@ pub(crate) fn run_out<P: Pie, Q: Pacer>(
 )
     requires hub { IsLanedHub hub.old }
     requires calm { IsCalm hub.old.hub }
+    requires disk { HasNoDiskStop hub.old.hub }
     requires snapshot { hub.old.hub.job.settings.snapshot ≡ 0 }
     requires fragments { fragments.now ≡ fragments_of hub.old.hub.job }
     requires program { P.is_for program.now hub.old.hub.job }
@@ -127,6 +129,7 @@ pub(crate) fn run_out<P: Pie, Q: Pacer>(
     ensures same { (hub.new.hub.job ≡ hub.old.hub.job) × (hub.new.hub.start ≡ hub.old.hub.start) }
     ensures hub { IsLanedHub hub.new }
     ensures calm { IsCalm hub.new.hub }
+    ensures disk { HasNoDiskStop hub.new.hub }
     ensures ended { has_ended (reverse hub.new.hub.journal.events) ≡ true }
 {
     hubs_are_bounded();
@@ -150,6 +153,7 @@ pub(crate) fn ended<P: Pie, Q: Pacer>(
     requires start { hub.hub.start ≡ fresh_snapshot (system_of job.now) }
     requires fragments { fragments.now ≡ fragments_of job.now }
     requires ended { has_ended (reverse hub.hub.journal.events) ≡ true }
+    requires disk { HasNoDiskStop hub.hub }
     requires free { (lane : ℕ) → lane < hub.hub.job.settings.lanes → is_out_at hub lane ≡ false }
     ensures { HasRun job.now fragments.now result }
 {

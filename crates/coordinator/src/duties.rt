@@ -1,6 +1,6 @@
-ghost use Rattle.std.specs.Prelude.{◌≡◌};
+ghost use Rattle.std.specs.Prelude.{◌≡◌, []};
 ghost use Rattle.noted_lock.specs.Sights.{lock_id};
-ghost use Rattle.grape_hub.specs.Notes.{OthersStay};
+ghost use Rattle.grape_hub.specs.Notes.{own_in, note_of, OthersStay};
 ghost use Rattle.coordinator.specs.Seats.{IsSeatOfRun};
 ghost use Rattle.coordinator.specs.Turns.{ServesDuty};
 
@@ -19,6 +19,7 @@ fn serve_duty<P: Pie, Q: Pacer>(hub: &mut Hub<P, Q>, into: &mut Snapshot) -> Ser
     requires snapshot { hub.old.hub.job.settings.snapshot ≡ 0 }
     ensures same { (hub.new.hub.job ≡ hub.old.hub.job) × (hub.new.hub.start ≡ hub.old.hub.start) }
     ensures others { OthersStay hub.old hub.old.hub.job.settings.lanes hub.new }
+    ensures still { own_in (note_of hub.old hub.old.hub.job.settings.lanes) ≡ [] → own_in (note_of hub.new hub.old.hub.job.settings.lanes) ≡ [] }
     ensures served { ServesDuty result hub.old.hub hub.new.hub }
 {
     nothing_is_sealed();

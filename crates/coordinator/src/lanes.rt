@@ -11,6 +11,7 @@ ghost use Rattle.grape_hub.specs.Theorems.{IsCalm};
 ghost use Rattle.coordinator.specs.Shapes.{shape_of};
 ghost use Rattle.coordinator.specs.Runs.{HasRun};
 ghost use Rattle.coordinator.specs.Seats.{IsSeatOfRun, HoldsSeat, IsSlotAt, AreSeatsOfRun, AreSlots};
+ghost use Rattle.coordinator.specs.Turns.{HasNoDiskStop};
 
 use crate::alone::{ended, run_out};
 use crate::duties::duty_turn;
@@ -127,6 +128,7 @@ fn finish_alone<P: Pie, Q: Pacer>(
     requires hub { IsLanedHub hub }
     requires same { (hub.hub.job ≡ job.now) × (hub.hub.start ≡ fresh_snapshot (system_of job.now)) × (hub.hub.counters ≡ P.counters_for job.now) }
     requires free { (lane : ℕ) → lane < job.now.settings.lanes → is_out_at hub lane ≡ false }
+    requires disk { HasNoDiskStop hub.hub }
     requires fragments { fragments.now ≡ fragments_of job.now }
     requires snapshot { job.now.settings.snapshot ≡ 0 }
     requires program { P.is_for program.now job.now }
@@ -163,6 +165,7 @@ fn share<R: Threads + Wait + Sync, P: Pie + Send + Sync, Q: Pacer + Send, G: Gat
     ensures hub { IfSome result (λ x. IsLanedHub x) }
     ensures same { IfSome result (λ x. (x.hub.job ≡ job.now) × (x.hub.start ≡ fresh_snapshot (system_of job.now)) × (x.hub.counters ≡ P.counters_for job.now)) }
     ensures free { IfSome result (λ x. (lane : ℕ) → lane < job.now.settings.lanes → is_out_at x lane ≡ false) }
+    ensures disk { IfSome result (λ x. HasNoDiskStop x.hub) }
 {
     notes_tell();
     calm_is_empty();

@@ -5,7 +5,7 @@ ghost use Rattle.grape_event.specs.declared.event.StopCause.TheVariants.{Memory}
 ghost use Rattle.grape_hub.specs.LanedHub.{IsLanedHub};
 ghost use Rattle.grape_hub.specs.Calls.{AppendedUnlessEnded};
 ghost use Rattle.grape_hub.specs.Theorems.{IsCalm};
-ghost use Rattle.coordinator.specs.Turns.{GoesOn, HasNoDuty};
+ghost use Rattle.coordinator.specs.Turns.{GoesOn, HasNoDuty, HasNoDiskStop};
 
 use delay_stretch::Pacer;
 use grape_event::StopCause;
@@ -28,6 +28,7 @@ pub(crate) fn take_turn<P: Pie, Q: Pacer>(
 ) -> bool
     requires hub { IsLanedHub hub.old }
     requires calm { IsCalm hub.old.hub }
+    requires disk { HasNoDiskStop hub.old.hub }
     requires snapshot { hub.old.hub.job.settings.snapshot ≡ 0 }
     requires fragments { fragments.now ≡ fragments_of hub.old.hub.job }
     requires program { P.is_for program.now hub.old.hub.job }
@@ -35,6 +36,7 @@ pub(crate) fn take_turn<P: Pie, Q: Pacer>(
     ensures same { (hub.new.hub.job ≡ hub.old.hub.job) × (hub.new.hub.counters ≡ hub.old.hub.counters) × (hub.new.hub.start ≡ hub.old.hub.start) }
     ensures hub { IsLanedHub hub.new }
     ensures calm { IsCalm hub.new.hub }
+    ensures disk { HasNoDiskStop hub.new.hub }
     ensures goes_on { GoesOn result hub.old.hub hub.new.hub }
 {
     match do_duty(hub, into) {
@@ -48,10 +50,12 @@ pub(crate) fn take_turn<P: Pie, Q: Pacer>(
 fn do_duty<P: Pie, Q: Pacer>(hub: &mut Hub<P, Q>, into: &mut Snapshot) -> Option<bool>
     requires hub { IsLanedHub hub.old }
     requires calm { IsCalm hub.old.hub }
+    requires disk { HasNoDiskStop hub.old.hub }
     requires snapshot { hub.old.hub.job.settings.snapshot ≡ 0 }
     ensures same { (hub.new.hub.job ≡ hub.old.hub.job) × (hub.new.hub.counters ≡ hub.old.hub.counters) × (hub.new.hub.start ≡ hub.old.hub.start) }
     ensures hub { IsLanedHub hub.new }
     ensures calm { IsCalm hub.new.hub }
+    ensures disk { HasNoDiskStop hub.new.hub }
     ensures duty { MatchOption result ((hub.new.hub ≡ hub.old.hub) × HasNoDuty hub.new.hub) (λ goes_on. GoesOn goes_on hub.old.hub hub.new.hub) }
 {
     turns_are_calm();
@@ -70,6 +74,7 @@ fn do_duty<P: Pie, Q: Pacer>(hub: &mut Hub<P, Q>, into: &mut Snapshot) -> Option
 fn serve<P: Pie, Q: Pacer>(hub: &mut Hub<P, Q>, fragments: &[Fragment], program: &P) -> bool
     requires hub { IsLanedHub hub.old }
     requires calm { IsCalm hub.old.hub }
+    requires disk { HasNoDiskStop hub.old.hub }
     requires duty { HasNoDuty hub.old.hub }
     requires fragments { fragments.now ≡ fragments_of hub.old.hub.job }
     requires program { P.is_for program.now hub.old.hub.job }
@@ -77,6 +82,7 @@ fn serve<P: Pie, Q: Pacer>(hub: &mut Hub<P, Q>, fragments: &[Fragment], program:
     ensures same { (hub.new.hub.job ≡ hub.old.hub.job) × (hub.new.hub.counters ≡ hub.old.hub.counters) × (hub.new.hub.start ≡ hub.old.hub.start) }
     ensures hub { IsLanedHub hub.new }
     ensures calm { IsCalm hub.new.hub }
+    ensures disk { HasNoDiskStop hub.new.hub }
     ensures goes_on { GoesOn result hub.old.hub hub.new.hub }
 {
     turns_are_calm();

@@ -8,7 +8,7 @@ use coordinator::Story;
 pub struct Finish {
     pub status: Status,
     /// There is one after `Done` and `WriteFault`, and none where the words or the input were refused. After `NoMemory`
-    /// there is one where the run had begun.
+    /// there is one where the run had begun: its journal ended by End, or by a Stop for want of memory.
     pub story: Option<Story>,
 }
 

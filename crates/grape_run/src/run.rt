@@ -53,7 +53,7 @@ pub fn grape<R: Threads + Wait + Sync, S: Source, O: Sink, N: Sink, G: Gate + Sy
     ensures write_fault { result.status ≡ Status.WriteFault → Rose (O.faults out.old) (O.faults out.new) }
     ensures silent { IsSilent result.status → (O.written out.new ≡ O.written out.old) × (O.flushed out.new ≡ O.flushed out.old) × (O.faults out.new ≡ O.faults out.old) }
 
-    // A run that is done, or whose writing failed, has the story of a legal journal that ended by End.
+    // A run that is done, or whose writing failed, has the story of a legal journal that ended by End. Where memory ran out it ended so too, or by a Stop for that.
     ensures story { TellsStory (S.left input.old) result.status result.story }
 
     ensures note { AppendsUnlessFault (N.written note.old) (note_text result.status) (N.written note.new) (N.faults note.old) (N.faults note.new) }

@@ -1,8 +1,10 @@
-use Rattle.std.proofs.Common.{sym, ◌∙◌, subst}
+use Rattle.std.proofs.Common.{List, reverse, sym, ◌∙◌, ap, subst}
 use Rattle.token_cut.specs.Shapes.{Starts, IsShape}
 use Rattle.token_cut.specs.Parts.{SnapshotParts}
 use Rattle.base_machine.specs.Machine.{system_of}
 use Rattle.base_machine.specs.Fitness.{IsInForm}
+use Rattle.grape_event.specs.declared.event.Event.{Event}
+use Rattle.grape_hub.specs.Notes.{is_stopped_by_disk}
 use Rattle.coordinator.proofs.Places.{in_limits}
 use Rattle.coordinator.proofs.Beginnings.{begun_fresh}
 use Rattle.coordinator.proofs.alone.run_on.Goals as goal
@@ -17,6 +19,9 @@ open-requires-clause-start g c =
 
 pub run_out-requires-clause-calm : goal.run_out-requires-clause-calm
 run_out-requires-clause-calm g c = c.turns_are_calm.ensures.beginning c.in-Ok-open.hub.hub c.in-Ok-open.ensures.hub.0 c.in-Ok-open.ensures.beginning.0.2
+
+pub run_out-requires-clause-disk : goal.run_out-requires-clause-disk
+run_out-requires-clause-disk g c = ap (λ (es : List Event). is_stopped_by_disk (reverse es)) c.in-Ok-open.ensures.beginning.0.2
 
 pub ended-requires-clause-start : goal.ended-requires-clause-start
 ended-requires-clause-start g c =

@@ -1,8 +1,8 @@
-use Rattle.std.proofs.Common.{◌<◌, ℕ, sym, ◌∙◌, ap, subst}
+use Rattle.std.proofs.Common.{◌<◌, ℕ, List, refl, sym, ◌∙◌, ap, subst}
 use Rattle.graph_core.specs.declared.job.Job.{Job}
 use Rattle.noted_lock.specs.Sights.{lock_id}
 use Rattle.grape_hub.specs.LanedHub.{LanedHub}
-use Rattle.grape_hub.specs.Notes.{note_of}
+use Rattle.grape_hub.specs.Notes.{own_in, note_of}
 use Rattle.coordinator.proofs.Seating.{hub_at_seat, coordinator_seat}
 use Rattle.coordinator.proofs.duties.duty_turn.Goals as goal
 
@@ -38,10 +38,17 @@ returns g c =
     let note = ap (λ (n : ℕ). note_of held n) (sym c.requires.seat.number) ∙ c.enter-inside.ensures.note in
     let told = hub_at_seat c.notes_tell.ensures.grounds c.notes_tell.ensures.begin z job job.settings.lanes c.args.seat held c.requires.seat note in
     let left = c.leave.ensures.same in
+    let value = c.value.ensures.value in
+    let count = ap (λ (j : Job). j.settings.lanes) told.0 in
+    let before =
+    ap (λ (x : LanedHub). own_in (note_of x x.hub.job.settings.lanes)) value
+    ∙ (ap (λ (n : ℕ). own_in (note_of held n)) count ∙ (ap (λ (ns : List ℕ). own_in ns) note ∙ c.requires.seat.still refl)) in
+    let here = ap (λ (x : LanedHub). x.hub.job.settings.lanes) value ∙ count in
+    let still = ap (λ (n : ℕ). own_in (note_of new n)) (sym here) ∙ c.serve_duty-served.ensures.still before in
     let number = same.1 ∙ c.requires.seat.number in
     record {
       seat = coordinator_seat c.notes_tell.ensures.begin z job c.leave.result new (left.0 ∙ (same.0 ∙ c.requires.seat.lock)) (left.1 ∙ number)
           (c.serve_duty-served.ensures.same.0 ∙ (ap (λ (x : LanedHub). x.hub.job) c.value.ensures.value ∙ told.0))
           (c.serve_duty-served.ensures.same.1 ∙ (ap (λ (x : LanedHub). x.hub.start) c.value.ensures.value ∙ told.1))
-          (c.leave.ensures.note ∙ ap (λ (n : ℕ). note_of new n) number);
+          (c.leave.ensures.note ∙ ap (λ (n : ℕ). note_of new n) number) still;
     }

@@ -1,10 +1,9 @@
 use Rattle.std.proofs.Common.{sym, ap, subst, arith}
-use Rattle.grape_event.specs.declared.event.StopCause.TheVariants.{Memory}
 use Rattle.grape_hub.specs.declared.work.Duty.{Duty}
 use Rattle.grape_hub.specs.HubValues.{HubValues}
 use Rattle.grape_hub.specs.Calls.{ChoosesDuty}
 use Rattle.grape_hub.specs.Theorems.{IsCalm}
-use Rattle.coordinator.specs.Turns.{GoesOn, HasNoDuty}
+use Rattle.coordinator.specs.Turns.{GoesOn, HasNoDuty, HasNoDiskStop}
 use Rattle.coordinator.proofs.Turns.{duty_done, stopped_unchanged}
 use Rattle.coordinator.proofs.turn.do_duty.Goals as goal
 
@@ -15,24 +14,30 @@ returns-in-Nothing g c =
       same = (ap (λ (h : HubValues). h.job) chosen.1, ap (λ (h : HubValues). h.counters) chosen.1, ap (λ (h : HubValues). h.start) chosen.1);
       hub = c.duty.ensures.hub;
       calm = subst (λ (h : HubValues). IsCalm h) (sym chosen.1) c.requires.calm;
+      disk = subst (λ (h : HubValues). HasNoDiskStop h) (sym chosen.1) c.requires.disk;
       duty = (chosen.1, subst (λ (h : HubValues). HasNoDuty h) (sym chosen.1) (chosen.2, (c.nothing_is_sealed.ensures c.args.hub.now.hub c.requires.hub.0 c.requires.snapshot).0, chosen.0));
     }
 
 pub returns-in-NoMemory : goal.returns-in-NoMemory
 returns-in-NoMemory g c =
     let same = subst (λ (r : Duty). ChoosesDuty c.args.hub.now.hub r c.duty.new.self.hub) c.in-NoMemory.is c.duty.ensures.chosen in
-    let s = stopped_unchanged c.turns_are_calm.ensures.other c.args.hub.now.hub c.duty.new.self.hub c.give_up.new.hub.hub Memory c.requires.calm same c.duty.ensures.hub.0 c.give_up.ensures.stopped c.give_up.ensures.hub.0 in
-    record { same = (s.job, s.counters, s.start); hub = c.give_up.ensures.hub; calm = s.calm; duty = subst (λ b. GoesOn b c.args.hub.now.hub c.give_up.new.hub.hub) (sym c.give_up.ensures.stays) s.ended }
+    let s = stopped_unchanged c.turns_are_calm.ensures.other c.args.hub.now.hub c.duty.new.self.hub c.give_up.new.hub.hub c.requires.calm c.requires.disk same c.duty.ensures.hub.0 c.give_up.ensures.stopped c.give_up.ensures.hub.0 in
+    record { same = (s.job, s.counters, s.start); hub = c.give_up.ensures.hub; calm = s.calm; disk = s.disk; duty = subst (λ b. GoesOn b c.args.hub.now.hub c.give_up.new.hub.hub) (sym c.give_up.ensures.stays) s.ended }
 
 pub returns-in-Did : goal.returns-in-Did
 returns-in-Did g c =
     let d = duty_done c.choices_are_exact.ensures.duty c.turns_are_calm.ensures.other c.args.hub.now.hub c.duty.new.self.hub c.duty.result c.requires.hub.0 c.requires.calm c.in-Did.is c.duty.ensures.chosen c.duty.ensures.hub.0 in
-    record { same = (d.job, d.counters, d.start); hub = c.duty.ensures.hub; calm = d.calm; duty = d.longer }
+    record { same = (d.job, d.counters, d.start); hub = c.duty.ensures.hub; calm = d.calm; disk = d.disk; duty = d.longer }
 
 pub returns-in-Ended-clause-calm : goal.returns-in-Ended-clause-calm
 returns-in-Ended-clause-calm g c =
     let chosen = subst (λ (r : Duty). ChoosesDuty c.args.hub.now.hub r c.duty.new.self.hub) c.in-Ended.is c.duty.ensures.chosen in
     subst (λ (h : HubValues). IsCalm h) (sym chosen.0) c.requires.calm
+
+pub returns-in-Ended-clause-disk : goal.returns-in-Ended-clause-disk
+returns-in-Ended-clause-disk g c =
+    let chosen = subst (λ (r : Duty). ChoosesDuty c.args.hub.now.hub r c.duty.new.self.hub) c.in-Ended.is c.duty.ensures.chosen in
+    subst (λ (h : HubValues). HasNoDiskStop h) (sym chosen.0) c.requires.disk
 
 pub duty-requires-clause-kept : goal.duty-requires-clause-kept
 duty-requires-clause-kept g c = (c.nothing_is_sealed.ensures c.args.hub.now.hub c.requires.hub.0 c.requires.snapshot).0

@@ -1,8 +1,8 @@
-use Rattle.std.proofs.Common.{◌≡◌, not, sym, ◌∙◌, ap, subst}
+use Rattle.std.proofs.Common.{◌≡◌, not, refl, sym, ◌∙◌, ap, subst}
 use Rattle.graph_core.specs.declared.job.Job.{Job}
 use Rattle.graph_core.specs.Queries.{equations_of}
 use Rattle.graph_core.specs.Fragments.{fragments_of, fragment_of}
-use Rattle.grape_event.specs.declared.event.StopCause.TheVariants.{Memory}
+use Rattle.grape_event.specs.declared.event.Event.TheVariants.{Give}
 use Rattle.grape_hub.specs.declared.work.Next.{Next}
 use Rattle.grape_hub.specs.HubValues.{HubValues}
 use Rattle.grape_hub.specs.States.{state_of}
@@ -10,7 +10,8 @@ use Rattle.grape_hub.specs.LanedHub.{lanes_after_answer}
 use Rattle.grape_hub.specs.Desks.{has_taken}
 use Rattle.grape_hub.specs.Calls.{Chooses, ReadyWhereTook}
 use Rattle.grape_hub.specs.Theorems.{IsCalm}
-use Rattle.coordinator.specs.Turns.{GoesOn}
+use Rattle.coordinator.specs.Turns.{GoesOn, HasNoDiskStop}
+use Rattle.coordinator.proofs.Causes.{disk_after, disk_after_lane}
 use Rattle.coordinator.proofs.Turns.{worker_has_part, part_of_worker, evaluates, solves, took_is_out, stopped_unchanged, given_after_take}
 use Rattle.coordinator.proofs.turn.serve.Goals as goal
 
@@ -72,21 +73,36 @@ returns-in-Took-clause-calm g c =
     c.turns_are_calm.ensures.turn c.args.hub.now.hub c.next.new.self.hub c.give.new.self.hub c.in-Took.work.worker 0 c.requires.hub.0 c.requires.calm chosen.1 c.next.ensures.hub.0
     (given_after_take c.args.hub.now.hub c.next.new.self.hub c.give.new.self.hub c.in-Took.work.worker 0 c.in-Took.work.worker chosen.1 c.give.ensures.given) c.give.ensures.hub.0
 
+pub returns-in-Took-clause-disk : goal.returns-in-Took-clause-disk
+returns-in-Took-clause-disk g c =
+    let chosen = subst (λ (r : Next). Chooses c.args.hub.now.hub 0 r c.next.new.self.hub) c.in-Took.is c.next.ensures.chosen in
+    disk_after c.next.new.self.hub c.give.new.self.hub (Give c.in-Took.work.worker)
+    (given_after_take c.args.hub.now.hub c.next.new.self.hub c.give.new.self.hub c.in-Took.work.worker 0 c.in-Took.work.worker chosen.1 c.give.ensures.given) refl
+
 pub returns-in-Did-clause-calm : goal.returns-in-Did-clause-calm
 returns-in-Did-clause-calm g c =
     let chosen = subst (λ (r : Next). Chooses c.args.hub.now.hub 0 r c.next.new.self.hub) c.in-Did.is c.next.ensures.chosen in
     c.turns_are_calm.ensures.other c.args.hub.now.hub c.next.new.self.hub c.in-Did.field-0 c.requires.hub.0 c.requires.calm chosen.1 chosen.2 c.next.ensures.hub.0
+
+pub returns-in-Did-clause-disk : goal.returns-in-Did-clause-disk
+returns-in-Did-clause-disk g c =
+    disk_after_lane c.args.hub.now.hub c.next.new.self.hub 0 c.in-Did.field-0 (subst (λ (r : Next). Chooses c.args.hub.now.hub 0 r c.next.new.self.hub) c.in-Did.is c.next.ensures.chosen)
 
 pub returns-in-Ended-clause-calm : goal.returns-in-Ended-clause-calm
 returns-in-Ended-clause-calm g c =
     let chosen = subst (λ (r : Next). Chooses c.args.hub.now.hub 0 r c.next.new.self.hub) c.in-Ended.is c.next.ensures.chosen in
     subst (λ (h : HubValues). IsCalm h) (sym chosen.0) c.requires.calm
 
+pub returns-in-Ended-clause-disk : goal.returns-in-Ended-clause-disk
+returns-in-Ended-clause-disk g c =
+    let chosen = subst (λ (r : Next). Chooses c.args.hub.now.hub 0 r c.next.new.self.hub) c.in-Ended.is c.next.ensures.chosen in
+    subst (λ (h : HubValues). HasNoDiskStop h) (sym chosen.0) c.requires.disk
+
 pub returns-in-NoMemory : goal.returns-in-NoMemory
 returns-in-NoMemory g c =
     let same = subst (λ (r : Next). Chooses c.args.hub.now.hub 0 r c.next.new.self.hub) c.in-NoMemory.is c.next.ensures.chosen in
-    let s = stopped_unchanged c.turns_are_calm.ensures.other c.args.hub.now.hub c.next.new.self.hub c.give_up.new.hub.hub Memory c.requires.calm same c.next.ensures.hub.0 c.give_up.ensures.stopped c.give_up.ensures.hub.0 in
-    record { same = (s.job, s.counters, s.start); hub = c.give_up.ensures.hub; calm = s.calm; goes_on = subst (λ b. GoesOn b c.args.hub.now.hub c.give_up.new.hub.hub) (sym c.give_up.ensures.stays) s.ended }
+    let s = stopped_unchanged c.turns_are_calm.ensures.other c.args.hub.now.hub c.next.new.self.hub c.give_up.new.hub.hub c.requires.calm c.requires.disk same c.next.ensures.hub.0 c.give_up.ensures.stopped c.give_up.ensures.hub.0 in
+    record { same = (s.job, s.counters, s.start); hub = c.give_up.ensures.hub; calm = s.calm; disk = s.disk; goes_on = subst (λ b. GoesOn b c.args.hub.now.hub c.give_up.new.hub.hub) (sym c.give_up.ensures.stays) s.ended }
 
 pub unreachable-requires : goal.unreachable-requires
 unreachable-requires g c =
