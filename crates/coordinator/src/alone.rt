@@ -9,7 +9,7 @@ ghost use Rattle.coordinator.specs.Shapes.{shape_of};
 ghost use Rattle.coordinator.specs.Runs.{HasRun, LastEvent};
 ghost use Rattle.coordinator.specs.Turns.{HasNoDiskStop};
 
-use crate::kept_at::KeptAt;
+use crate::programs::two_sims;
 use crate::ran::Ran;
 use crate::story::Story;
 use crate::turn::take_turn;
@@ -20,7 +20,6 @@ use graph_core::{Fragment, Job, Query};
 use pie_core::Pie;
 use pie_dist::Dist;
 use pie_flood::{Labels, Reach};
-use pie_sim::Sim;
 use std::alloc::Global;
 use token_cut::{Shape, Snapshot};
 
@@ -42,73 +41,53 @@ pub fn run_alone<Q: Pacer>(
     ensures { HasRun job.now fragments.now result }
 {
     match &job.query {
-        Query::Dist(_) => run_on(
-            alloc,
-            job,
-            fragments,
-            shape,
-            pacers,
-            &Dist::new(),
-            Dist::new(),
-        ),
-        Query::Label => run_on(
-            alloc,
-            job,
-            fragments,
-            shape,
-            pacers,
-            &Labels::new(),
-            Labels::new(),
-        ),
-        Query::Reach(_) => run_on(
-            alloc,
-            job,
-            fragments,
-            shape,
-            pacers,
-            &Reach::new(),
-            Reach::new(),
-        ),
-        Query::Sim(pattern) => {
-            let Ok(program) = Sim::new(alloc, pattern) else {
-                return Ran::NoMemory;
-            };
-            let Ok(kept) = Sim::new(alloc, pattern) else {
-                return Ran::NoMemory;
-            };
-            run_on(alloc, job, fragments, shape, pacers, &program, kept)
+        Query::Dist(_) => {
+            let programs = (Dist::new(), Dist::new());
+            run_on(alloc, job, fragments, shape, pacers, programs)
         }
+        Query::Label => {
+            let programs = (Labels::new(), Labels::new());
+            run_on(alloc, job, fragments, shape, pacers, programs)
+        }
+        Query::Reach(_) => {
+            let programs = (Reach::new(), Reach::new());
+            run_on(alloc, job, fragments, shape, pacers, programs)
+        }
+        Query::Sim(pattern) => match two_sims(alloc, pattern) {
+            Some(programs) => run_on(alloc, job, fragments, shape, pacers, programs),
+            None => Ran::NoMemory,
+        },
     }
 }
 
-/// The same by the program of the job's query. The two programs are of one type; the hub keeps one of them.
+/// The same by two programs of the job's query: the lane evaluates by the first, and the hub keeps the second.
 fn run_on<P: Pie, Q: Pacer>(
     alloc: Global,
     job: &Job,
     fragments: &[Fragment],
     shape: &Shape,
     pacers: Vec<Q>,
-    program: &P,
-    kept: P,
+    programs: (P, P),
 ) -> Ran
     requires job { IsJob job.now }
     requires fragments { fragments.now ≡ fragments_of job.now }
     requires shape { shape.now ≡ shape_of job.now }
     requires snapshot { job.now.settings.snapshot ≡ 0 }
-    requires program { P.is_for program.now job.now }
-    requires kept { P.is_for kept job.now }
+    requires program { P.is_for programs.0 job.now }
+    requires kept { P.is_for programs.1 job.now }
     ensures { HasRun job.now fragments.now result }
 {
     fresh_is_a_start();
     turns_are_calm();
     calm_is_empty();
+    let (program, kept) = programs;
     let Ok(start) = Snapshot::fresh(alloc, shape) else {
         return Ran::NoMemory;
     };
     let Ok(mut hub) = Hub::open(alloc, kept, job, fragments, pacers, start) else {
         return Ran::NoMemory;
     };
-    run_out(alloc, &mut hub, fragments, program);
+    run_out(alloc, &mut hub, fragments, &program);
     ended(alloc, job, fragments, hub)
 }
 

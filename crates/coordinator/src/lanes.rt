@@ -15,6 +15,7 @@ ghost use Rattle.coordinator.specs.Turns.{HasNoDiskStop};
 
 use crate::alone::{ended, run_out};
 use crate::duties::duty_turn;
+use crate::programs::two_sims;
 use crate::ran::Ran;
 use delay_stretch::Pacer;
 use grape_hub::{Hub, calm_is_empty, fresh_is_a_start, notes_tell, turns_are_calm};
@@ -24,7 +25,6 @@ use noted_lock::{LockSeat, NotedLock};
 use pie_core::Pie;
 use pie_dist::Dist;
 use pie_flood::{Labels, Reach};
-use pie_sim::Sim;
 use std::alloc::Global;
 use std::sync::Wait;
 use std::thread::{Threads, for_each_mut, join};
@@ -52,38 +52,25 @@ pub fn run_lanes<R: Threads + Wait + Sync, Q: Pacer + Send, G: Gate + Sync>(
 {
     match &job.query {
         Query::Dist(_) => {
-            let (program, kept) = (Dist::new(), Dist::new());
-            run_shared(
-                rt, alloc, job, fragments, shape, pacers, gate, &program, kept,
-            )
+            let programs = (Dist::new(), Dist::new());
+            run_shared(rt, alloc, job, fragments, shape, pacers, gate, programs)
         }
         Query::Label => {
-            let (program, kept) = (Labels::new(), Labels::new());
-            run_shared(
-                rt, alloc, job, fragments, shape, pacers, gate, &program, kept,
-            )
+            let programs = (Labels::new(), Labels::new());
+            run_shared(rt, alloc, job, fragments, shape, pacers, gate, programs)
         }
         Query::Reach(_) => {
-            let (program, kept) = (Reach::new(), Reach::new());
-            run_shared(
-                rt, alloc, job, fragments, shape, pacers, gate, &program, kept,
-            )
+            let programs = (Reach::new(), Reach::new());
+            run_shared(rt, alloc, job, fragments, shape, pacers, gate, programs)
         }
-        Query::Sim(pattern) => {
-            let Ok(program) = Sim::new(alloc, pattern) else {
-                return Ran::NoMemory;
-            };
-            let Ok(kept) = Sim::new(alloc, pattern) else {
-                return Ran::NoMemory;
-            };
-            run_shared(
-                rt, alloc, job, fragments, shape, pacers, gate, &program, kept,
-            )
-        }
+        Query::Sim(pattern) => match two_sims(alloc, pattern) {
+            Some(programs) => run_shared(rt, alloc, job, fragments, shape, pacers, gate, programs),
+            None => Ran::NoMemory,
+        },
     }
 }
 
-/// The same by the program of the job's query. The lanes share one of the two programs, and the hub keeps the other.
+/// The same by two programs of the job's query: the lanes evaluate by the first, and the hub keeps the second.
 fn run_shared<R: Threads + Wait + Sync, P: Pie + Send + Sync, Q: Pacer + Send, G: Gate + Sync>(
     rt: &R,
     alloc: Global,
@@ -92,29 +79,29 @@ fn run_shared<R: Threads + Wait + Sync, P: Pie + Send + Sync, Q: Pacer + Send, G
     shape: &Shape,
     pacers: Vec<Q>,
     gate: &G,
-    program: &P,
-    kept: P,
+    programs: (P, P),
 ) -> Ran
     requires job { IsJob job.now }
     requires fragments { fragments.now ≡ fragments_of job.now }
     requires shape { shape.now ≡ shape_of job.now }
     requires snapshot { job.now.settings.snapshot ≡ 0 }
-    requires program { P.is_for program.now job.now }
-    requires kept { P.is_for kept job.now }
+    requires program { P.is_for programs.0 job.now }
+    requires kept { P.is_for programs.1 job.now }
     ensures { HasRun job.now fragments.now result }
 {
     fresh_is_a_start();
     turns_are_calm();
+    let (program, kept) = programs;
     let Ok(start) = Snapshot::fresh(alloc, shape) else {
         return Ran::NoMemory;
     };
     let Ok(hub) = Hub::open(alloc, kept, job, fragments, pacers, start) else {
         return Ran::NoMemory;
     };
-    let Some(hub) = share(rt, alloc, hub, job, fragments, program, gate) else {
+    let Some(hub) = share(rt, alloc, hub, job, fragments, &program, gate) else {
         return Ran::NoMemory;
     };
-    finish_alone(alloc, job, fragments, hub, program)
+    finish_alone(alloc, job, fragments, hub, &program)
 }
 
 /// Goes on alone where a hub's journal hasn't ended, and tells of the run. No lane has a Work out.

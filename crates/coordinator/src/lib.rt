@@ -17,6 +17,7 @@ mod lanes_agree;
 mod laws;
 #[cfg(test)]
 mod policies;
+mod programs;
 mod ran;
 mod shape;
 #[cfg(test)]
