@@ -28,6 +28,19 @@ met_so_far-more o xs ys values i value h e v m =
     ∙ met_so_far-set o xs ys i h e
     ∙ ap (met_so_far o xs ys) (sym (add-one i))
 
+-- lists of the same length
+pub meets_of-length : (o : Order) (n : ℕ) (xs ys : List ℕ) → length xs ≡ n → length ys ≡ n → length (meets_of o xs ys) ≡ n
+meets_of-length o n [] ys h k = h
+meets_of-length o n (x ∷ xs) [] h k = absurd (omega (arith, h, k))
+meets_of-length o zero (x ∷ xs) (y ∷ ys) h k = absurd (omega (arith, h))
+meets_of-length o (suc n) (x ∷ xs) (y ∷ ys) h k = ap suc (meets_of-length o n xs ys (omega (arith, h)) (omega (arith, k)))
+
+pub meets_of-at : (o : Order) (xs ys : List ℕ) (m : ℕ) → m < length xs → m < length ys → slice_index (meets_of o xs ys) m ≡ meet_of o (slice_index xs m) (slice_index ys m)
+meets_of-at o [] ys m h k = absurd (omega (arith, h))
+meets_of-at o (x ∷ xs) [] m h k = absurd (omega (arith, k))
+meets_of-at o (x ∷ xs) (y ∷ ys) zero h k = refl
+meets_of-at o (x ∷ xs) (y ∷ ys) (suc m) h k = meets_of-at o xs ys m (omega (arith, h)) (omega (arith, k))
+
 -- where one list ends no value is left
 pub count_values-left : (xs ys : List ℕ) → length xs ≡ 0 → count_values xs ys ≡ 0
 count_values-left [] ys e = refl

@@ -3,3 +3,4 @@ pub mod Hands
 pub mod BufferValues
 pub mod Buffers
 pub mod Posted
+pub mod Worked

@@ -4,8 +4,9 @@ ghost use Rattle.message_buffer.specs.Posted.{Step, after_steps, HasPosted};
 
 use value_order::Order;
 
-/// After any posts and batches begun since it was empty, a buffer has in each class for each mirror the meet of the values
-/// posted to it, and the number of batches begun.
+/// After any posts, folds and batches begun since it was empty, a buffer has in each class for each mirror the meet of the
+/// values posted to it, and the number of batches begun. A post counts in the class that it was made in, and so does a
+/// batch, but in the untagged class where a fold came later.
 pub fn buffer_has_what_was_posted()
     ensures { (order : Order) (mirrors : ℕ) (steps : List Step) → HasPosted order mirrors steps (after_steps (new_buffer order mirrors) steps) }
 {}

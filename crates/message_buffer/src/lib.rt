@@ -9,10 +9,12 @@ mod buffer;
 mod hand;
 mod laws;
 mod meets;
+mod worked;
 
 pub use buffer::Buffer;
 pub use hand::Hand;
 pub use laws::buffer_has_what_was_posted;
+pub use worked::rows;
 
 #[cfg(test)]
 mod tests;
