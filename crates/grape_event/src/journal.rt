@@ -1,4 +1,4 @@
-ghost use Rattle.std.specs.Prelude.{◌≡◌, ◌+◌, ◌^◌, ◌<◌, ◌≤◌, [], ◌∷◌, ◌++◌, ◌↔◌, length, reverse, slice_get, IsNone, IsOk, OnOk, OnErr};
+ghost use Rattle.std.specs.Prelude.{◌≡◌, ◌+◌, ◌-◌, ◌^◌, ◌<◌, ◌≤◌, [], ◌∷◌, ◌++◌, ◌↔◌, length, reverse, slice_get, IsNone, IsOk, OnOk, OnErr};
 ghost use Rattle.grape_event.specs.Journals.{new_journal, has_ended};
 
 use crate::event::Event;
@@ -76,6 +76,14 @@ impl Journal {
         ensures none { IsNone result ↔ (length self.now.events ≤ place) }
     {
         self.events.get(place as usize).copied()
+    }
+
+    /// The last event, None in an empty journal.
+    pub fn last(&self) -> Option<Event>
+        ensures event { result ≡ slice_get self.now.events (length self.now.events - 1) }
+        ensures none { IsNone result ↔ (self.now.events ≡ []) }
+    {
+        self.events.last().copied()
     }
 
     /// Whether the last event is an End or a Stop.

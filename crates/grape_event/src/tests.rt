@@ -23,6 +23,7 @@ fn events_are_listed(rt: HostRuntime) -> Result<(), Fail> {
     ];
     let mut journal = Journal::new(rt.alloc());
     assert!(rt; !journal.ended());
+    assert_eq!(rt; journal.last(), None);
     journal.reserve(table.len() as u64)?;
     let room = journal.spare();
     assert!(rt; room >= table.len() as u64);
@@ -32,6 +33,7 @@ fn events_are_listed(rt: HostRuntime) -> Result<(), Fail> {
         assert_eq!(rt; journal.len(), count as u64 + 1);
         assert_eq!(rt; journal.get(count as u64), Some(event));
         assert_eq!(rt; journal.get(count as u64 + 1), None);
+        assert_eq!(rt; journal.last(), Some(event));
         assert_eq!(rt; journal.ended(), is_end);
     }
     Ok(())
