@@ -4,5 +4,4 @@ pub mod Causes
 pub mod Turns
 pub mod Settled
 pub mod Done
-pub mod Driving
 pub mod Seating

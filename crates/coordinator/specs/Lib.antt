@@ -1,5 +1,4 @@
 pub mod Shapes
 pub mod Runs
 pub mod Turns
-pub mod Lanes
 pub mod Seats

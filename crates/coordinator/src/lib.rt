@@ -7,23 +7,15 @@
 #![tactic(auto)]
 
 mod alone;
-#[cfg(test)]
-mod bounded;
 mod duties;
 mod kept_at;
 mod lanes;
-#[cfg(test)]
-mod lanes_agree;
 mod laws;
-#[cfg(test)]
-mod policies;
 mod programs;
 mod ran;
 mod shape;
 #[cfg(test)]
 mod shape_tests;
-#[cfg(test)]
-mod snapshots;
 mod story;
 #[cfg(test)]
 mod tests;

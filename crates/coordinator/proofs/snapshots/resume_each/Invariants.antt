@@ -1,7 +1,0 @@
-use Rattle.std.specs.Prelude.{All}
-use Rattle.base_machine.specs.Machine.{system_of}
-use Rattle.base_machine.specs.Fitness.{IsInForm}
-use Rattle.coordinator.proofs.snapshots.resume_each.Given as goal
-
-abbrev pub invariant-kept : goal.invariant-kept
-invariant-kept g l = All (λ s. IsInForm (system_of l.job) s) l.snapshot-iterator.rest.items
