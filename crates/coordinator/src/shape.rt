@@ -1,13 +1,13 @@
 ghost use Rattle.std.specs.Prelude.{◌≡◌, ◌<◌, All, IfOk};
 ghost use Rattle.graph_core.specs.Graphs.{count_of, IsJob};
-ghost use Rattle.graph_core.specs.Queries.{order_of, equations_of};
+ghost use Rattle.graph_core.specs.Queries.{order_of};
 ghost use Rattle.graph_core.specs.Fragments.{fragments_of};
-ghost use Rattle.pie_core.specs.Solutions.{starts_of};
 ghost use Rattle.token_cut.specs.Shapes.{IsShape};
 ghost use Rattle.coordinator.specs.Shapes.{starts_in, shape_of};
 
 use grape_port::NoMemory;
 use graph_core::{Fragment, Job, Query};
+use pie_core::starts_of;
 use std::alloc::Global;
 use token_cut::{Shape, ShapePart};
 use value_order::Order;
@@ -49,17 +49,4 @@ fn starts_in(alloc: Global, job: &Job, part: &Fragment) -> Result<ShapePart, NoM
     let owned = starts_of(alloc, job, part.owned())?;
     let mirrors = starts_of(alloc, job, part.mirrors())?;
     Ok(ShapePart { owned, mirrors })
-}
-
-/// The start value of each vertex.
-fn starts_of(alloc: Global, job: &Job, vertices: &[u32]) -> Result<Vec<u64>, NoMemory>
-    requires job { IsJob job.now }
-    requires vertices { All (λ vertex. vertex < count_of job.now.graph) vertices.now }
-    ensures { IfOk result (λ starts. starts.items ≡ starts_of (equations_of job.now) vertices.now) }
-{
-    let mut starts = Vec::with_capacity(alloc, vertices.len())?;
-    'vertices: for vertex in vertices {
-        starts.push(job.start_of(*vertex))?;
-    }
-    Ok(starts)
 }

@@ -9,6 +9,7 @@ mod evaluation;
 mod laws;
 mod local;
 mod pie;
+mod starts;
 mod worklist;
 
 pub use evaluation::evaluate;
@@ -17,6 +18,7 @@ pub use laws::{
 };
 pub use local::Local;
 pub use pie::Pie;
+pub use starts::starts_of;
 pub use worklist::Worklist;
 
 #[cfg(test)]

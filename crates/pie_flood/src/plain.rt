@@ -4,8 +4,9 @@
 ghost use Rattle.std.specs.Prelude.{◌≡◌, ◌<◌, ◌^◌, length};
 ghost use Rattle.graph_core.specs.Parts.{place_count};
 
-use graph_core::Fragment;
+use graph_core::{Fragment, Job};
 use message_buffer::Hand;
+use program_trials::Plain;
 use std::cmp::min;
 
 /// Lowers an owned place to the least value that it reads.
@@ -31,23 +32,21 @@ fn pass(part: &Fragment, values: &mut [u64])
     }
 }
 
-/// Passes as many times as there are places: in a later one nothing can fall.
-pub fn evaluate_plainly(part: &Fragment, values: &mut [u64])
-    requires few { place_count part.now < 2 ^ 32 }
-    requires values { length values.old ≡ place_count part.now }
-{
-    for _ in 0..values.len() {
-        pass(part, values);
-    }
-}
+/// Plain evaluation of labels and of reachability alike.
+pub struct PlainFlood;
 
-/// Lowers each mirror by the hand.
-pub fn meet_mirrors(part: &Fragment, values: &mut [u64], hand: &Hand)
-    requires values { length values.old ≡ place_count part.now }
-    requires hand { length hand.now.values ≡ length part.now.mirrors }
-{
-    let owned = part.owned().len();
-    for (mirror, value) in hand.values().iter().enumerate() {
-        values[owned + mirror] = min(values[owned + mirror], *value);
+impl Plain for PlainFlood {
+    /// Passes as many times as there are places: in a later one nothing can fall.
+    fn evaluate(&self, _job: &Job, part: &Fragment, values: &mut [u64]) {
+        for _ in 0..values.len() {
+            pass(part, values);
+        }
+    }
+
+    fn meet(&self, part: &Fragment, values: &mut [u64], hand: &Hand) {
+        let owned = part.owned().len();
+        for (mirror, value) in hand.values().iter().enumerate() {
+            values[owned + mirror] = min(values[owned + mirror], *value);
+        }
     }
 }

@@ -1,65 +1,15 @@
-ghost use Rattle.std.specs.Prelude.{◌≡◌, ◌<◌, ◌≤◌, ◌^◌, IfOk};
+ghost use Rattle.std.specs.Prelude.{IfOk};
 ghost use Rattle.graph_core.specs.Graphs.{IsGraph};
-ghost use Rattle.pie_flood.specs.FloodJobs.{IsLabelJob, IsReachJob};
 
 use crate::compared::{compare_all, expect_values};
 use crate::{Labels, Reach};
 use grape_port::NoMemory;
-use graph_core::{Cut, Edge, Graph, Job, Policy, Query, Settings};
-use graph_text::{LineReader, TextFault};
+use graph_core::{Cut, Fragment, Graph, Job, Query};
+use graph_text::TextFault;
+use message_buffer::Hand;
+use program_trials::{Plain, edge, generated, job_of, read_graph, trials};
 use std::alloc::Global;
-use std::process::Abort;
 use std::test::Fail;
-
-fn label_job(graph: Graph, fragments: u32, cut: Cut) -> Job
-    requires graph { IsGraph graph }
-    requires some { 1 ≤ fragments }
-    requires few { fragments ≤ 64 }
-    ensures job { IsLabelJob result }
-    ensures fragments { result.settings.fragments ≡ fragments }
-{
-    Job {
-        graph,
-        query: Query::Label,
-        settings: Settings {
-            fragments,
-            lanes: 1,
-            cut,
-            policy: Policy::Ap,
-            snapshot: 0,
-        },
-    }
-}
-
-fn reach_job(graph: Graph, source: u32, fragments: u32, cut: Cut) -> Job
-    requires graph { IsGraph graph }
-    requires some { 1 ≤ fragments }
-    requires few { fragments ≤ 64 }
-    ensures job { IsReachJob result }
-    ensures fragments { result.settings.fragments ≡ fragments }
-{
-    Job {
-        graph,
-        query: Query::Reach(source),
-        settings: Settings {
-            fragments,
-            lanes: 1,
-            cut,
-            policy: Policy::Ap,
-            snapshot: 0,
-        },
-    }
-}
-
-fn edge(from: u32, to: u32) -> Edge
-    ensures { result ≡ record { from = from; to = to; weight = 4294967295 } }
-{
-    Edge {
-        from,
-        to,
-        weight: 4_294_967_295,
-    }
-}
 
 /// A loop, an edge both ways, an edge that is gone along backwards, a lone vertex, and the largest numbers.
 fn islands(alloc: Global) -> Result<Graph, NoMemory>
@@ -76,46 +26,20 @@ fn islands(alloc: Global) -> Result<Graph, NoMemory>
             (4_294_967_295, 0),
         ],
         &[
-            edge(2, 2),
-            edge(1, 2),
-            edge(2, 1),
-            edge(4, 2),
-            edge(4_294_967_295, 4_294_967_294),
+            edge(2, 2, u32::MAX),
+            edge(1, 2, u32::MAX),
+            edge(2, 1, u32::MAX),
+            edge(4, 2, u32::MAX),
+            edge(4_294_967_295, 4_294_967_294, u32::MAX),
         ],
     )
 }
 
-/// The graph of these edge lines, which has the vertex 0.
-fn read(alloc: Global, lines: &str) -> Result<Graph, TextFault>
-    ensures { IfOk result IsGraph }
-{
-    let mut reader = LineReader::new(alloc)?;
-    reader.feed(b"query dist 0\n0 0 0\n")?;
-    reader.feed(lines.as_bytes())?;
-    let Job {
-        graph,
-        query: _,
-        settings: _,
-    } = reader.finish()?;
-    Ok(graph)
-}
-
 /// Eight edges between eleven vertices, by a number: loops, edges that are repeated, and more parts than one.
-fn generated(alloc: Global, number: u64) -> Result<Graph, TextFault>
+fn eight_edges(alloc: Global, number: u64) -> Result<Graph, TextFault>
     ensures { IfOk result IsGraph }
 {
-    let mut lines = String::new(alloc);
-    let mut word = number;
-    for _ in 0..8 {
-        word = word
-            .wrapping_mul(6_364_136_223_846_793_005)
-            .wrapping_add(1_442_695_040_888_963_407);
-        let from = (word >> 33) % 11;
-        let to = (word >> 40) % 11;
-        let line = format!(in alloc; "{from} {to} 7\n")?;
-        lines.push_str(line.as_str())?;
-    }
-    read(alloc, lines.as_str())
+    generated(alloc, number, 8, 11, 7..8)
 }
 
 /// Forty vertices in a ring.
@@ -128,12 +52,12 @@ fn ring(alloc: Global) -> Result<Graph, TextFault>
         let line = format!(in alloc; "{vertex} {next}\n")?;
         lines.push_str(line.as_str())?;
     }
-    read(alloc, lines.as_str())
+    read_graph(alloc, lines.as_str())
 }
 
 #[test]
 fn leaves_the_labels_of_a_whole_graph(rt: HostRuntime) -> Result<(), Fail> {
-    let job = label_job(islands(rt.alloc())?, 1, Cut::Range);
+    let job = job_of(islands(rt.alloc())?, Query::Label, 1, Cut::Range);
     let want = [1, 1, 3, 1, 4_294_967_294, 4_294_967_294];
     expect_values(&rt, rt.alloc(), &Labels::new(), &job, want.as_slice())?;
     Ok(())
@@ -141,7 +65,7 @@ fn leaves_the_labels_of_a_whole_graph(rt: HostRuntime) -> Result<(), Fail> {
 
 #[test]
 fn leaves_what_is_reached_of_a_whole_graph(rt: HostRuntime) -> Result<(), Fail> {
-    let from_4 = reach_job(islands(rt.alloc())?, 4, 1, Cut::Hash);
+    let from_4 = job_of(islands(rt.alloc())?, Query::Reach(4), 1, Cut::Hash);
     expect_values(
         &rt,
         rt.alloc(),
@@ -149,7 +73,7 @@ fn leaves_what_is_reached_of_a_whole_graph(rt: HostRuntime) -> Result<(), Fail> 
         &from_4,
         [0, 0, 1, 0, 1, 1].as_slice(),
     )?;
-    let from_3 = reach_job(islands(rt.alloc())?, 3, 1, Cut::Range);
+    let from_3 = job_of(islands(rt.alloc())?, Query::Reach(3), 1, Cut::Range);
     expect_values(
         &rt,
         rt.alloc(),
@@ -157,7 +81,12 @@ fn leaves_what_is_reached_of_a_whole_graph(rt: HostRuntime) -> Result<(), Fail> 
         &from_3,
         [1, 1, 0, 1, 1, 1].as_slice(),
     )?;
-    let from_largest = reach_job(islands(rt.alloc())?, 4_294_967_295, 1, Cut::Range);
+    let from_largest = job_of(
+        islands(rt.alloc())?,
+        Query::Reach(4_294_967_295),
+        1,
+        Cut::Range,
+    );
     expect_values(
         &rt,
         rt.alloc(),
@@ -172,16 +101,26 @@ fn leaves_what_is_reached_of_a_whole_graph(rt: HostRuntime) -> Result<(), Fail> 
 fn labels_agree_with_plain_evaluation(rt: HostRuntime) -> Result<(), Fail> {
     let labels = Labels::new();
     for fragments in 1..6 {
-        let by_range = label_job(islands(rt.alloc())?, fragments, Cut::Range);
+        let by_range = job_of(islands(rt.alloc())?, Query::Label, fragments, Cut::Range);
         compare_all(&rt, rt.alloc(), &labels, &by_range, 2)?;
-        let by_hash = label_job(ring(rt.alloc())?, fragments, Cut::Hash);
+        let by_hash = job_of(ring(rt.alloc())?, Query::Label, fragments, Cut::Hash);
         compare_all(&rt, rt.alloc(), &labels, &by_hash, 17)?;
     }
     for number in 1..9 {
         for fragments in 1..6 {
-            let by_range = label_job(generated(rt.alloc(), number)?, fragments, Cut::Range);
+            let by_range = job_of(
+                eight_edges(rt.alloc(), number)?,
+                Query::Label,
+                fragments,
+                Cut::Range,
+            );
             compare_all(&rt, rt.alloc(), &labels, &by_range, 3)?;
-            let by_hash = label_job(generated(rt.alloc(), number)?, fragments, Cut::Hash);
+            let by_hash = job_of(
+                eight_edges(rt.alloc(), number)?,
+                Query::Label,
+                fragments,
+                Cut::Hash,
+            );
             compare_all(&rt, rt.alloc(), &labels, &by_hash, 0)?;
         }
     }
@@ -192,18 +131,48 @@ fn labels_agree_with_plain_evaluation(rt: HostRuntime) -> Result<(), Fail> {
 fn reachability_agrees_with_plain_evaluation(rt: HostRuntime) -> Result<(), Fail> {
     let reach = Reach::new();
     for fragments in 1..6 {
-        let by_range = reach_job(islands(rt.alloc())?, 4, fragments, Cut::Range);
+        let by_range = job_of(islands(rt.alloc())?, Query::Reach(4), fragments, Cut::Range);
         compare_all(&rt, rt.alloc(), &reach, &by_range, 0)?;
-        let by_hash = reach_job(ring(rt.alloc())?, 9, fragments, Cut::Hash);
+        let by_hash = job_of(ring(rt.alloc())?, Query::Reach(9), fragments, Cut::Hash);
         compare_all(&rt, rt.alloc(), &reach, &by_hash, 0)?;
     }
     for number in 1..9 {
         for fragments in 1..6 {
-            let by_range = reach_job(generated(rt.alloc(), number)?, 0, fragments, Cut::Range);
+            let by_range = job_of(
+                eight_edges(rt.alloc(), number)?,
+                Query::Reach(0),
+                fragments,
+                Cut::Range,
+            );
             compare_all(&rt, rt.alloc(), &reach, &by_range, 1)?;
-            let by_hash = reach_job(generated(rt.alloc(), number)?, 0, fragments, Cut::Hash);
+            let by_hash = job_of(
+                eight_edges(rt.alloc(), number)?,
+                Query::Reach(0),
+                fragments,
+                Cut::Hash,
+            );
             compare_all(&rt, rt.alloc(), &reach, &by_hash, 0)?;
         }
+    }
+    Ok(())
+}
+
+/// Leaves all values as they are.
+struct Still;
+
+impl Plain for Still {
+    fn evaluate(&self, _job: &Job, _part: &Fragment, _values: &mut [u64]) {}
+
+    fn meet(&self, _part: &Fragment, _values: &mut [u64], _hand: &Hand) {}
+}
+
+#[test]
+fn trials_tell_values_apart(rt: HostRuntime) -> Result<(), Fail> {
+    let job = job_of(islands(rt.alloc())?, Query::Label, 2, Cut::Range);
+    let trials = trials(rt.alloc(), &Labels::new(), &Still, &job, 0)?;
+    assert_eq!(rt; trials.len(), 4);
+    for trial in &trials {
+        assert!(rt; trial.program.as_slice() != trial.plain.as_slice());
     }
     Ok(())
 }

@@ -2,4 +2,3 @@ pub mod Steps
 pub mod Mirrors
 pub mod Solved
 pub mod LeastJobs
-pub mod Starting

@@ -3,5 +3,4 @@ pub mod Targets
 pub mod Steps
 pub mod Mirrors
 pub mod Solved
-pub mod Starting
 pub mod Distinct

@@ -4,8 +4,9 @@
 ghost use Rattle.std.specs.Prelude.{◌≡◌, ◌<◌, ◌^◌, length, All};
 ghost use Rattle.graph_core.specs.Parts.{place_count};
 
-use graph_core::{Fragment, PatternLink};
+use graph_core::{Fragment, Job, PatternLink, Query};
 use message_buffer::Hand;
+use program_trials::Plain;
 
 /// Whether an owned place reads a value with the bit of a node.
 fn reads_node(part: &Fragment, values: &[u64], place: u32, node: u8) -> bool
@@ -49,7 +50,7 @@ fn pass(part: &Fragment, links: &[PatternLink], values: &mut [u64])
 }
 
 /// Passes as many times as there are bits: in a later one nothing can fall.
-pub fn evaluate_plainly(part: &Fragment, links: &[PatternLink], values: &mut [u64])
+fn evaluate_plainly(part: &Fragment, links: &[PatternLink], values: &mut [u64])
     requires few { place_count part.now < 2 ^ 32 }
     requires values { length values.old ≡ place_count part.now }
     requires links { All (λ link. (link.from < 64) × (link.to < 64)) links.now }
@@ -59,13 +60,20 @@ pub fn evaluate_plainly(part: &Fragment, links: &[PatternLink], values: &mut [u6
     }
 }
 
-/// Lowers each mirror by the hand.
-pub fn meet_mirrors(part: &Fragment, values: &mut [u64], hand: &Hand)
-    requires values { length values.old ≡ place_count part.now }
-    requires hand { length hand.now.values ≡ length part.now.mirrors }
-{
-    let owned = part.owned().len();
-    for (mirror, value) in hand.values().iter().enumerate() {
-        values[owned + mirror] &= *value;
+/// Plain evaluation of the pattern that a job asks for.
+pub struct PlainSim;
+
+impl Plain for PlainSim {
+    fn evaluate(&self, job: &Job, part: &Fragment, values: &mut [u64]) {
+        if let Query::Sim(pattern) = &job.query {
+            evaluate_plainly(part, &pattern.links, values);
+        }
+    }
+
+    fn meet(&self, part: &Fragment, values: &mut [u64], hand: &Hand) {
+        let owned = part.owned().len();
+        for (mirror, value) in hand.values().iter().enumerate() {
+            values[owned + mirror] &= *value;
+        }
     }
 }

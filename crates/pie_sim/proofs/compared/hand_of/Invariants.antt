@@ -1,5 +1,0 @@
-use Rattle.std.proofs.Common.{◌≡◌, length}
-use Rattle.pie_sim.proofs.compared.hand_of.Given as goal
-
-abbrev pub invariant-mirrors : goal.invariant-mirrors
-invariant-mirrors l = length l.hand.values ≡ l.mirrors

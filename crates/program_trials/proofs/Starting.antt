@@ -1,0 +1,91 @@
+-- A fragment of a job that is loaded with its start values is ready to be evaluated, and one that was evaluated is again.
+use Rattle.std.proofs.Common.{◌≡◌, ℕ, ◌+◌, ◌*◌, ◌<◌, ◌^◌, refl, sym, ◌∙◌, ap, subst, arith, List, ◌++◌, length, slice_index, slice_index_or}
+use Rattle.std.proofs.lemmas.List.{get_or_default, length-append, length-map, length-replicate, length-take-le}
+use Rattle.std.proofs.lemmas.List.FromFn.{length-map-range_with_len, get_or-map-range_with_len}
+use Rattle.graph_core.specs.declared.job.Job.{Job}
+use Rattle.graph_core.specs.Graphs.{count_of, IsJob}
+use Rattle.graph_core.specs.Parts.{FragmentLists, place_count}
+use Rattle.graph_core.specs.Equations.{Equations}
+use Rattle.graph_core.specs.Queries.{equations_of}
+use Rattle.graph_core.specs.Fragments.{owned_of, mirrors_of, fragment_of, fragments_of}
+use Rattle.graph_core.proofs.Cutting.{stands_left, stands_right}
+use Rattle.fragment_cut.proofs.Placing.{places_inside, few_owned, few_mirrors}
+use Rattle.message_buffer.specs.HandValues.{HandValues}
+use Rattle.pie_core.specs.Locals.{LocalValues}
+use Rattle.pie_core.specs.LocalCalls.{new_local, loaded}
+use Rattle.pie_core.specs.Solutions.{AllBelow, IsLocalSolution, IsReadyFor, IsReadyAgain, starts_of}
+use Rattle.pie_core.proofs.Lists.{AllBelow-refl, AllBelow-trans}
+
+-- ---- the vertices of a fragment are the job's
+
+pub owned-inside : (job : Job) → IsJob job → (part : FragmentLists) (us : List ℕ) → part.number < job.settings.fragments → part ≡ fragment_of job part.number → us ≡ part.owned → (k d : ℕ) → k < length us → slice_index_or us k d < count_of job.graph
+owned-inside job is_job part us small is_part same k d h =
+    let i = part.number in
+    let vs = owned_of job i in
+    let all : us ≡ vs = same ∙ ap (λ (p : FragmentLists). p.owned) is_part in
+    let l : k < length vs = omega (arith, h, ap length all) in
+    let there = stands_left vs (mirrors_of job i) k (slice_index vs k) (l, refl) in
+    omega (arith, places_inside job is_job i small k (slice_index vs k) there, ap (λ xs. slice_index_or xs k d) all, get_or_default vs k d 0 l)
+
+pub mirrors-inside : (job : Job) → IsJob job → (part : FragmentLists) (us : List ℕ) → part.number < job.settings.fragments → part ≡ fragment_of job part.number → us ≡ part.mirrors → (k d : ℕ) → k < length us → slice_index_or us k d < count_of job.graph
+mirrors-inside job is_job part us small is_part same k d h =
+    let i = part.number in
+    let vs = mirrors_of job i in
+    let all : us ≡ vs = same ∙ ap (λ (p : FragmentLists). p.mirrors) is_part in
+    let l : k < length vs = omega (arith, h, ap length all) in
+    let there = stands_right (owned_of job i) vs k (slice_index vs k) (l, refl) in
+    omega (arith, places_inside job is_job i small (length (owned_of job i) + k) (slice_index vs k) there, ap (λ xs. slice_index_or xs k d) all, get_or_default vs k d 0 l)
+
+-- ---- the values at the start
+
+pub loaded-ready : (e : Equations) (job : Job) (part : FragmentLists) (made local : LocalValues) (counters n : ℕ) (starts : List ℕ) → e ≡ equations_of job → part.number < job.settings.fragments → part ≡ fragment_of job part.number →
+    starts ≡ starts_of (equations_of job) (part.owned ++ part.mirrors) → made ≡ new_local (length part.owned) (length part.mirrors) counters → counters ≡ n → local ≡ loaded made starts → IsReadyFor e job part local n
+loaded-ready e job part made local counters n starts same number is_part is_start is_made is_count is_local =
+    let places = part.owned ++ part.mirrors in
+    let all : local.values ≡ starts_of e places = ap (λ (l : LocalValues). l.values) is_local ∙ is_start ∙ ap (λ x. starts_of x places) (sym same) in
+    let owned : length made.before ≡ length part.owned = ap (λ (l : LocalValues). length l.before) is_made ∙ length-replicate (length part.owned) 0 in
+    let count : length starts ≡ length places = ap length is_start ∙ length-map places (equations_of job).start in
+    let both = length-append part.owned part.mirrors in
+    let kept = length-take-le (length made.before) starts (omega (arith, owned, count, both)) in
+    let before = ap (λ (l : LocalValues). length l.before) is_local in
+    record {
+      number = number;
+      is_part = is_part;
+      below_start = subst (λ xs. AllBelow e.order xs (starts_of e places)) (sym all) (AllBelow-refl e.order (starts_of e places));
+      owned = before ∙ kept ∙ owned;
+      room = ap (λ (l : LocalValues). length l.counters) is_local ∙ ap (λ (l : LocalValues). length l.counters) is_made ∙ length-replicate (length part.owned * counters) 0 ∙ ap (λ m. length part.owned * m) is_count;
+    }
+
+-- what was evaluated can be evaluated again
+pub ready-again : (e : Equations) (job : Job) (part : FragmentLists) (old new : LocalValues) (counters : ℕ) (hand : HandValues) → IsReadyFor e job part old counters → IsLocalSolution e part.owned part.mirrors old.values new.values
+    → new.before ≡ old.before → length new.counters ≡ length old.counters → length hand.values ≡ length part.mirrors → IsReadyAgain e job part new counters hand
+ready-again e job part old new counters hand ready solution before room mirrors = record {
+  ready = record {
+    number = ready.number;
+    is_part = ready.is_part;
+    below_start = AllBelow-trans e.order new.values old.values (starts_of e (part.owned ++ part.mirrors)) solution.candidate.below ready.below_start;
+    owned = ap length before ∙ ready.owned;
+    room = room ∙ ready.room;
+  };
+  solved = solution.candidate.equations;
+  mirrors = mirrors;
+}
+
+-- ---- the fragments of a job, one by one
+
+pub part-count : (job : Job) (parts : List FragmentLists) → parts ≡ fragments_of job → length parts ≡ job.settings.fragments
+part-count job parts all = ap length all ∙ length-map-range_with_len (fragment_of job) 0 job.settings.fragments
+
+pub nth-part : (job : Job) (parts : List FragmentLists) (i : ℕ) (part : FragmentLists) → parts ≡ fragments_of job → i < length parts → part ≡ slice_index_or parts i part → (part.number < job.settings.fragments) × (part ≡ fragment_of job part.number)
+nth-part job parts i part all inside here =
+    let n = job.settings.fragments in
+    let small : i < n = omega (arith, inside, part-count job parts all) in
+    let at : part ≡ fragment_of job i = here ∙ ap (λ ps. slice_index_or ps i part) all ∙ get_or-map-range_with_len (fragment_of job) 0 n i i part small (omega arith) in
+    let number : part.number ≡ i = ap (λ (p : FragmentLists). p.number) at in
+    (omega (arith, small, number), at ∙ ap (fragment_of job) (sym number))
+
+-- a fragment of a job has no more places than two for each vertex
+pub few-places : (job : Job) → IsJob job → (part : FragmentLists) → part.number < job.settings.fragments → part ≡ fragment_of job part.number → place_count part < 2 ^ 32
+few-places job is_job part small is_part =
+    let same = ap (λ (p : FragmentLists). place_count p) is_part in
+    omega (arith, same, few_owned job is_job part.number small, few_mirrors job is_job part.number small)
