@@ -1,5 +1,7 @@
--- The order of lists, place by place.
-use Rattle.std.proofs.Common.{◌≡◌, ℕ, refl, List, [], ◌∷◌}
+-- Lists, place by place.
+use Rattle.std.proofs.Common.{◌≡◌, ℕ, ◌+◌, ◌≤◌, refl, sym, ◌∙◌, arith, List, [], ◌∷◌, length, drop, slice_index}
+use Rattle.std.proofs.lemmas.List.{length-drop, get_or-drop}
+use Rattle.std.proofs.lemmas.Grind.{same_number_lists}
 use Rattle.value_order.specs.declared.order.Order.{Order}
 use Rattle.value_order.proofs.Orders.{Below-refl, Below-antisym, Below-trans}
 use Rattle.pie_core.specs.Solutions.{AllBelow}
@@ -21,3 +23,8 @@ AllBelow-trans o [] (y ∷ ys) zs h k = absurd h
 AllBelow-trans o (x ∷ xs) [] zs h k = absurd h
 AllBelow-trans o (x ∷ xs) (y ∷ ys) [] h k = absurd k
 AllBelow-trans o (x ∷ xs) (y ∷ ys) (z ∷ zs) h k = (Below-trans o x y z h.0 k.0, AllBelow-trans o xs ys zs h.1 k.1)
+
+-- two lists that are alike from place n on
+pub drop-same : (n : ℕ) (xs ys : List ℕ) → length xs ≡ length ys → ((q : ℕ) → n ≤ q → slice_index xs q ≡ slice_index ys q) → drop n xs ≡ drop n ys
+drop-same n xs ys e h =
+    same_number_lists (drop n xs) (drop n ys) (omega (arith, e, length-drop n xs, length-drop n ys)) (λ k l. get_or-drop n xs k 0 ∙ (h (n + k) (omega arith) ∙ sym (get_or-drop n ys k 0)))

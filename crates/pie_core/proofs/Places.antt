@@ -1,5 +1,5 @@
 -- What a list of places keeps when one is added or taken.
-use Rattle.std.proofs.Common.{◌≡◌, ◌≢◌, ℕ, ◌<◌, ◌≤◌, Bool, true, false, ◌||◌, cond, List, [], ◌∷◌, ◌++◌, length, get_or, replicate, refl, sym, ◌∙◌, ap, subst, arith, nat_eq}
+use Rattle.std.proofs.Common.{◌≡◌, ◌≢◌, ℕ, ◌<◌, ◌≤◌, Bool, true, false, ◌||◌, cond, if◌then◌else◌, List, [], ◌∷◌, ◌++◌, length, get_or, replicate, refl, sym, ◌∙◌, ap, subst, arith, nat_eq}
 use Rattle.std.specs.List.{IsDistinct, AllByRecursion}
 use Rattle.std.proofs.Math.ListN.{set}
 use Rattle.std.proofs.lemmas.Bool.Decides.{nat_tests}
@@ -30,6 +30,9 @@ or_cases : (a b : Bool) → (a || (b || false)) ≡ true → b ≡ false → a �
 or_cases true b h e = refl
 or_cases false true h e = absurd (let x : true ≡ false = e in cc)
 or_cases false false h e = h
+
+or_first : (a b : Bool) → a ≡ true → (a || b) ≡ true
+or_first a b e = rw e refl
 
 or_true : (a b : Bool) → b ≡ true → (a || (b || false)) ≡ true
 or_true true b e = refl
@@ -76,9 +79,7 @@ module _ (is_listed : List Bool) (waiting : List ℕ) (capacity place : ℕ) (ke
 -- the oldest place is taken
 module _ (is_listed : List Bool) (place : ℕ) (waiting : List ℕ) (capacity : ℕ) (kept : IsKept is_listed (place ∷ waiting) capacity) where
   pub first_inside : place < length is_listed
-  first_inside = kept.in_room place (or_first (nat_eq place place) (waits waiting place) (grind (arith, nat_tests))) where
-    or_first : (a b : Bool) → a ≡ true → (a || b) ≡ true
-    or_first a b e = rw e refl
+  first_inside = kept.in_room place (or_first (nat_eq place place) (waits waiting place) (grind (arith, nat_tests)))
 
   later : (other : ℕ) → waits waiting other ≡ true → waits (place ∷ waiting) other ≡ true
   later other h = or_second (nat_eq other place) (waits waiting other) h where
@@ -132,3 +133,26 @@ made_pop is_listed waiting after capacity capacity' place kept w c =
 
 pub popped_inside : (is_listed : List Bool) (waiting after : List ℕ) (capacity place : ℕ) → IsKept is_listed waiting capacity → waiting ≡ place ∷ after → place < length is_listed
 popped_inside is_listed waiting after capacity place kept w = first_inside is_listed place after capacity (subst (λ ws. IsKept is_listed ws capacity) w kept)
+
+-- ---- who waits where a place is added unless it waits, and where one was taken
+
+pub waits_on : (waiting : List ℕ) (p q : ℕ) → waits waiting q ≡ true → waits (if waits waiting p then waiting else waiting ++ p ∷ []) q ≡ true
+waits_on waiting p q h = go (waits waiting p)
+  where
+    go : (c : Bool) → waits (cond c waiting (waiting ++ p ∷ [])) q ≡ true
+    go true = h
+    go false = waits-push waiting p q ∙ or_first (waits waiting q) (nat_eq q p || false) h
+
+pub waits_new : (waiting : List ℕ) (p : ℕ) → waits (if waits waiting p then waiting else waiting ++ p ∷ []) p ≡ true
+waits_new waiting p = go (waits waiting p) refl
+  where
+    go : (c : Bool) → waits waiting p ≡ c → waits (cond c waiting (waiting ++ p ∷ [])) p ≡ true
+    go true e = e
+    go false e = waits-push waiting p p ∙ or_true (waits waiting p) (nat_eq p p) (grind (arith, nat_tests))
+
+pub still_waits : (waiting : List ℕ) (place q : ℕ) → q ≢ place → waits (place ∷ waiting) q ≡ true → waits waiting q ≡ true
+still_waits waiting place q d h = go (nat_eq q place) refl h
+  where
+    go : (c : Bool) → nat_eq q place ≡ c → (c || waits waiting q) ≡ true → waits waiting q ≡ true
+    go true e k = absurd (d (grind (arith, nat_tests, e)))
+    go false e k = k

@@ -2,7 +2,7 @@
 use Rattle.std.proofs.Common.{◌≡◌, ◌≢◌, ℕ, zero, suc, ◌+◌, ◌<◌, ◌≤◌, inl, inr, refl, sym, ◌∙◌, ap, subst, arith, List, [], ◌∷◌, ◌++◌, length, take, drop, slice_index}
 use Rattle.std.specs.Prelude.{slice_set, min}
 use Rattle.std.proofs.lemmas.Bool.{cases_eq, cases_lt}
-use Rattle.std.proofs.lemmas.List.{get_or-set_same, get_or-set_other, length-set, set-get_or}
+use Rattle.std.proofs.lemmas.List.{get_or-set_same, get_or-set_other, length-set, set-get_or, take-append-drop}
 use Rattle.value_order.specs.declared.order.Order.TheVariants.{Least}
 use Rattle.graph_core.specs.Parts.{FragmentLists}
 use Rattle.pie_core.specs.Locals.{LocalValues}
@@ -100,13 +100,8 @@ met-none : (xs : List ℕ) → met Least xs [] ≡ xs
 met-none [] = refl
 met-none (x ∷ xs) = refl
 
-take-drop : (n : ℕ) (xs : List ℕ) → take n xs ++ drop n xs ≡ xs
-take-drop zero xs = refl
-take-drop (suc n) [] = refl
-take-drop (suc n) (x ∷ xs) = ap (λ l. x ∷ l) (take-drop n xs)
-
 pub no-mirrors : (part : FragmentLists) (local : LocalValues) → with_mirrors part local [] ≡ local
-no-mirrors part local = ap (λ (xs : List ℕ). let l : LocalValues = record local { values = xs } in l) (ap (λ ys. take (length part.owned) local.values ++ ys) (met-none (drop (length part.owned) local.values)) ∙ take-drop (length part.owned) local.values)
+no-mirrors part local = ap (λ (xs : List ℕ). let l : LocalValues = record local { values = xs } in l) (ap (λ ys. take (length part.owned) local.values ++ ys) (met-none (drop (length part.owned) local.values)) ∙ take-append-drop (length part.owned) local.values)
 
 -- one value more of the hand
 met-more : (xs hand : List ℕ) (k : ℕ) → k < length hand → k < length xs → met Least xs (take (suc k) hand) ≡ slice_set (met Least xs (take k hand)) k (min (slice_index (met Least xs (take k hand)) k) (slice_index hand k))

@@ -1,8 +1,6 @@
 -- Relaxed values of a fragment are the local solution of least equations.
-use Rattle.std.proofs.Common.{◌≡◌, ℕ, zero, suc, ◌+◌, ◌<◌, ◌^◌, ◌≤◌, inl, inr, Bool, true, false, ◌==◌, ◌&&◌, not, if◌then◌else◌, refl, sym, ap, subst, arith, List, [], ◌∷◌, ◌++◌, length, map, filter, take, drop, slice_index, Contains}
-use Rattle.std.specs.List.{range_with_len}
+use Rattle.std.proofs.Common.{◌≡◌, ℕ, zero, suc, ◌+◌, ◌<◌, ◌≤◌, inl, inr, refl, sym, ap, subst, arith, List, [], ◌∷◌, ◌++◌, length, map, take, drop, slice_index, Contains}
 use Rattle.std.proofs.lemmas.Bool.{cases_lt}
-use Rattle.std.proofs.lemmas.List.FromFn.{length-range_with_len}
 use Rattle.std.proofs.lemmas.List.{length-map, length-append, get_or-map, get_or_past}
 use Rattle.std.proofs.lemmas.List.Elements.{length_all_zip}
 use Rattle.value_order.specs.declared.order.Order.TheVariants.{Least, Mask}
@@ -15,7 +13,7 @@ use Rattle.graph_core.specs.Graphs.{count_of, number_at, IsGraph, IsJob}
 use Rattle.graph_core.specs.Parts.{FragmentLists, place_count}
 use Rattle.graph_core.specs.Equations.{Equations}
 use Rattle.graph_core.specs.Queries.{Read, reads_of, start_value, order_of, least_of, equations_of}
-use Rattle.graph_core.specs.Fragments.{owner, is_read_in, owned_of, mirrors_of, places_of, fragment_of, StandsAt}
+use Rattle.graph_core.specs.Fragments.{owned_of, mirrors_of, places_of, fragment_of, StandsAt}
 use Rattle.graph_core.proofs.Lists.{least-le, le-least}
 use Rattle.graph_core.proofs.Sources.{zero-at_most}
 use Rattle.graph_core.proofs.Cutting.{stands_left}
@@ -23,6 +21,8 @@ use Rattle.value_order.specs.Order.{Below}
 use Rattle.message_buffer.specs.HandValues.{HandValues}
 use Rattle.pie_core.specs.Locals.{LocalValues}
 use Rattle.pie_core.specs.Solutions.{value_at, AllBelow, OwnEquationsHold, IsLocalSolution, IsReadyFor, IsReadyAgain, starts_of, met, lowered}
+use Rattle.pie_core.proofs.Lists.{drop-same}
+use Rattle.pie_core.proofs.Starting.{few-places}
 use Rattle.pie_core.proofs.Bridge.{Reads, in_readers_row, from_readers_row, value-at_place, read_stands}
 use Rattle.pie_lowering.specs.LeastEquations.{least_equations, IsLeastJob}
 use Rattle.pie_lowering.specs.Lowering.{LieBelow, AreAtMostFar, IsRelaxed, IsSettled, FitsPart, HasFallen, with_mirrors}
@@ -42,27 +42,6 @@ below-from [] [] e h = tt
 below-from [] (y ∷ ys) e h = absurd (omega (arith, e))
 below-from (x ∷ xs) [] e h = absurd (omega (arith, e))
 below-from (x ∷ xs) (y ∷ ys) e h = (h 0, below-from xs ys (omega (arith, e)) (λ q. h (suc q)))
-
-same-from : (xs ys : List ℕ) → length xs ≡ length ys → ((q : ℕ) → slice_index xs q ≡ slice_index ys q) → xs ≡ ys
-same-from [] [] e h = refl
-same-from [] (y ∷ ys) e h = absurd (omega (arith, e))
-same-from (x ∷ xs) [] e h = absurd (omega (arith, e))
-same-from (x ∷ xs) (y ∷ ys) e h = λ i. h 0 i ∷ same-from xs ys (omega (arith, e)) (λ q. h (suc q)) i
-
-drop-same : (n : ℕ) (xs ys : List ℕ) → length xs ≡ length ys → ((q : ℕ) → n ≤ q → slice_index xs q ≡ slice_index ys q) → drop n xs ≡ drop n ys
-drop-same zero xs ys e h = same-from xs ys e (λ q. h q (omega arith))
-drop-same (suc n) [] [] e h = refl
-drop-same (suc n) [] (y ∷ ys) e h = absurd (omega (arith, e))
-drop-same (suc n) (x ∷ xs) [] e h = absurd (omega (arith, e))
-drop-same (suc n) (x ∷ xs) (y ∷ ys) e h = drop-same n xs ys (omega (arith, e)) (λ q l. h (suc q) (omega (arith, l)))
-
-few-pass : (p : ℕ → Bool) (xs : List ℕ) → length (filter p xs) ≤ length xs
-few-pass p [] = omega arith
-few-pass p (x ∷ xs) = go (p x) (few-pass p xs)
-  where
-    go : (b : Bool) → length (filter p xs) ≤ length xs → length (if b then x ∷ filter p xs else filter p xs) ≤ suc (length xs)
-    go true h = omega (arith, h)
-    go false h = omega (arith, h)
 
 -- ---- the least equations of a job
 
@@ -169,18 +148,6 @@ below-far f (v ∷ vs) (x ∷ xs) far h zero = omega (arith, h.0, far v)
 below-far f (v ∷ vs) (x ∷ xs) far h (suc q) = below-far f vs xs far h.1 q
 
 -- ---- what evaluation is given
-
--- a fragment of a job has no more places than two for each vertex
-pub few-places : (job : Job) → IsJob job → (part : FragmentLists) → part ≡ fragment_of job part.number → place_count part < 2 ^ 32
-few-places job is_job part is_part =
-    let i = part.number in
-    let count = count_of job.graph in
-    let same = ap (λ (p : FragmentLists). place_count p) is_part in
-    let owned = few-pass (λ v. owner job v == i) (range_with_len 0 count) in
-    let mirrors = few-pass (λ v. not (owner job v == i) && is_read_in job i v) (range_with_len 0 count) in
-    let all = length-range_with_len 0 count in
-    let few = is_job.graph.few_vertices in
-    omega (arith, same, owned, mirrors, all, few)
 
 pub ready-fits : (job : Job) → IsJob job → (part : FragmentLists) (local : LocalValues) (n : ℕ) → IsReadyFor (equations_of job) job part local n → FitsPart part local
 ready-fits job is_job part local n ready =

@@ -1,40 +1,18 @@
 -- Steps by which values fall.
-use Rattle.std.proofs.Common.{◌≡◌, ◌≢◌, ℕ, ◌+◌, ◌<◌, ◌≤◌, ◌⊎◌, inl, inr, Bool, true, false, ◌||◌, cond, if◌then◌else◌, nat_lt, nat_eq, refl, sym, ◌∙◌, ap, subst, arith, List, [], ◌∷◌, ◌++◌, length, slice_index, slice_index_or, Contains, sum, Some}
+use Rattle.std.proofs.Common.{◌≡◌, ◌≢◌, ℕ, ◌+◌, ◌<◌, ◌≤◌, ◌⊎◌, inl, inr, Bool, true, false, cond, if◌then◌else◌, nat_lt, refl, sym, ◌∙◌, ap, subst, arith, List, [], ◌∷◌, ◌++◌, length, slice_index, slice_index_or, Contains, sum, Some}
 use Rattle.std.proofs.lemmas.Bool.{cases_eq}
 use Rattle.std.proofs.lemmas.Bool.Decides.{nat_tests}
 use Rattle.std.proofs.lemmas.List.{get_or-set_same, get_or-set_other, length-set, length_push, get_or_default}
-use Rattle.std.proofs.lemmas.List.Folds.{list_any-append}
 use Rattle.std.proofs.lemmas.List.Sums.{sum_by-set}
 use Rattle.graph_core.specs.declared.fragment.Reading.{Reading}
 use Rattle.graph_core.specs.Parts.{FragmentLists, place_count}
 use Rattle.pie_core.specs.PlaceLists.{waits}
 use Rattle.pie_core.specs.Locals.{LocalValues}
 use Rattle.pie_core.specs.LocalCalls.{with_value, with_waiting, TakesOldest}
+use Rattle.pie_core.proofs.Places.{waits_on, waits_new, still_waits}
 use Rattle.pie_lowering.specs.Lowering.{LieBelow, AreAtMostFar, HoldsReaders, IsRelaxed, IsSettled, FitsPart, lowered_to, HasFallen, work_left, WaitWhereFell}
 
--- ---- who waits
-
-pub waits_on : (waiting : List ℕ) (p q : ℕ) → waits waiting q ≡ true → waits (if waits waiting p then waiting else waiting ++ p ∷ []) q ≡ true
-waits_on waiting p q h = go (waits waiting p)
-  where
-    left : (a b : Bool) → a ≡ true → (a || b) ≡ true
-    left a b e = rw e refl
-
-    go : (c : Bool) → waits (cond c waiting (waiting ++ p ∷ [])) q ≡ true
-    go true = h
-    go false = list_any-append (nat_eq q) waiting (p ∷ []) ∙ left (waits waiting q) (nat_eq q p || false) h
-
-pub waits_new : (waiting : List ℕ) (p : ℕ) → waits (if waits waiting p then waiting else waiting ++ p ∷ []) p ≡ true
-waits_new waiting p = go (waits waiting p) refl
-  where
-    right : (a b : Bool) → b ≡ true → (a || (b || false)) ≡ true
-    right true b e = refl
-    right false b e = rw e refl
-
-    go : (c : Bool) → waits waiting p ≡ c → waits (cond c waiting (waiting ++ p ∷ [])) p ≡ true
-    go true e = e
-    go false e = list_any-append (nat_eq p) waiting (p ∷ []) ∙ right (waits waiting p) (nat_eq p p) (grind (arith, nat_tests))
-
+-- at most one place more waits
 one_more : (waiting : List ℕ) (p : ℕ) → length (if waits waiting p then waiting else waiting ++ p ∷ []) ≤ length waiting + 1
 one_more waiting p = go (waits waiting p)
   where
@@ -177,13 +155,6 @@ place-settled cost part old new q below w (inr h) = elim (w.fell q) [
   | inl e ↦ inr (holds-kept cost part old.values new.values q below e h)
   | inr k ↦ inl k
 ]
-
-still_waits : (waiting : List ℕ) (place q : ℕ) → q ≢ place → waits (place ∷ waiting) q ≡ true → waits waiting q ≡ true
-still_waits waiting place q d h = go (nat_eq q place) refl h
-  where
-    go : (c : Bool) → nat_eq q place ≡ c → (c || waits waiting q) ≡ true → waits waiting q ≡ true
-    go true e k = absurd (d (grind (arith, nat_tests, e)))
-    go false e k = k
 
 pub popped-settled : (cost : ℕ → ℕ) (part : FragmentLists) (old mid new : LocalValues) (place : ℕ) → TakesOldest old (Some place) mid → HasFallen cost part mid new → WaitWhereFell mid new → HoldsReaders cost part new.values place → IsSettled cost part old → IsSettled cost part new
 popped-settled cost part old mid new place taken fell w here h q l = elim (cases_eq q place) [

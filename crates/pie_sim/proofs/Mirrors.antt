@@ -1,6 +1,7 @@
 -- Mirrors are lowered by a hand.
 use Rattle.std.proofs.Common.{◌≡◌, ℕ, zero, suc, ◌+◌, ◌<◌, sym, ◌∙◌, refl, ap, arith, List, [], ◌∷◌, ◌++◌, length, take, drop, slice_index, bit_and}
 use Rattle.std.specs.Prelude.{slice_set}
+use Rattle.std.proofs.lemmas.List.{take-append-drop}
 use Rattle.value_order.specs.declared.order.Order.TheVariants.{Mask}
 use Rattle.graph_core.specs.Parts.{FragmentLists}
 use Rattle.pie_core.specs.Locals.{LocalValues}
@@ -11,13 +12,8 @@ met-none : (xs : List ℕ) → met Mask xs [] ≡ xs
 met-none [] = refl
 met-none (x ∷ xs) = refl
 
-take-drop : (n : ℕ) (xs : List ℕ) → take n xs ++ drop n xs ≡ xs
-take-drop zero xs = refl
-take-drop (suc n) [] = refl
-take-drop (suc n) (x ∷ xs) = ap (λ l. x ∷ l) (take-drop n xs)
-
 pub no-mirrors : (part : FragmentLists) (xs : List ℕ) → lowered_mirrors part xs [] ≡ xs
-no-mirrors part xs = ap (λ ys. take (length part.owned) xs ++ ys) (met-none (drop (length part.owned) xs)) ∙ take-drop (length part.owned) xs
+no-mirrors part xs = ap (λ ys. take (length part.owned) xs ++ ys) (met-none (drop (length part.owned) xs)) ∙ take-append-drop (length part.owned) xs
 
 -- one value more of the hand
 met-more : (xs hand : List ℕ) (k : ℕ) → k < length hand → k < length xs → met Mask xs (take (suc k) hand) ≡ slice_set (met Mask xs (take k hand)) k (bit_and (slice_index (met Mask xs (take k hand)) k) (slice_index hand k))

@@ -1,8 +1,7 @@
 -- Supported values of a fragment are the local solution of a simulation.
-use Rattle.std.proofs.Common.{◌≡◌, ℕ, zero, suc, ◌<◌, ◌^◌, ◌≤◌, inl, inr, Bool, true, false, ◌==◌, ◌&&◌, not, if◌then◌else◌, refl, sym, ◌∙◌, ap, subst, arith, List, [], ◌∷◌, ◌++◌, length, filter, take, drop, slice_index, slice_index_or, Contains, IsTrue}
-use Rattle.std.specs.List.{range_with_len, list_any, list_all}
+use Rattle.std.proofs.Common.{◌≡◌, ℕ, zero, suc, ◌<◌, inl, inr, Bool, true, ◌==◌, ◌&&◌, not, refl, sym, ◌∙◌, ap, subst, arith, List, [], ◌∷◌, ◌++◌, length, take, drop, slice_index, slice_index_or, Contains, IsTrue}
+use Rattle.std.specs.List.{list_any, list_all}
 use Rattle.std.proofs.lemmas.Bool.{and_parts, and_from, or_cases, or_left, or_right, eqb-true, eq-eqb, cases_Bool, both_ways, not-true, not_from_false}
-use Rattle.std.proofs.lemmas.List.FromFn.{length-range_with_len}
 use Rattle.std.proofs.lemmas.List.{length-map, length-append, get_or-map}
 use Rattle.std.proofs.lemmas.List.Elements.{length_all_zip, All-contains}
 use Rattle.value_order.specs.declared.order.Order.TheVariants.{Mask}
@@ -16,15 +15,17 @@ use Rattle.graph_core.specs.declared.settings.Settings.{Settings}
 use Rattle.graph_core.specs.declared.job.Job.{Job}
 use Rattle.graph_core.specs.Digraph.{Digraph}
 use Rattle.graph_core.specs.PatternGraph.{PatternGraph}
-use Rattle.graph_core.specs.Graphs.{count_of, label_at, IsJob}
+use Rattle.graph_core.specs.Graphs.{label_at, IsJob}
 use Rattle.graph_core.specs.Parts.{FragmentLists, place_count}
 use Rattle.graph_core.specs.Queries.{Read, reads_of, has_bit, mask_of, has_node, link_is_met, equations_of}
-use Rattle.graph_core.specs.Fragments.{owner, is_read_in, owned_of, mirrors_of, places_of, fragment_of, StandsAt}
+use Rattle.graph_core.specs.Fragments.{owned_of, mirrors_of, places_of, fragment_of, StandsAt}
 use Rattle.graph_core.proofs.Lists.{any_from, any_gives, all_from, all_gives}
 use Rattle.graph_core.proofs.Masks.{mask_has, mask_gives}
 use Rattle.graph_core.proofs.Cutting.{stands_left}
 use Rattle.pie_core.specs.Locals.{LocalValues}
 use Rattle.pie_core.specs.Solutions.{value_at, AllBelow, OwnEquationsHold, IsLocalSolution, IsReadyFor, starts_of, met, lowered}
+use Rattle.pie_core.proofs.Lists.{drop-same}
+use Rattle.pie_core.proofs.Starting.{few-places}
 use Rattle.pie_core.proofs.Bridge.{Reads, in_readers_row, in_readings_row, from_readings_row, value-at_place, read_stands}
 use Rattle.pie_sim.specs.SimJobs.{HasBit, targets_from, AreTargets, IsSimJob}
 use Rattle.pie_sim.specs.Falling.{is_read, AreSupported, IsSettled, ReadersAreListed, FitsPart, LieBelow, HasFallen, lowered_mirrors}
@@ -46,27 +47,6 @@ below-from [] [] e h = tt
 below-from [] (y ∷ ys) e h = absurd (omega (arith, e))
 below-from (x ∷ xs) [] e h = absurd (omega (arith, e))
 below-from (x ∷ xs) (y ∷ ys) e h = (h 0, below-from xs ys (omega (arith, e)) (λ q. h (suc q)))
-
-same-from : (xs ys : List ℕ) → length xs ≡ length ys → ((q : ℕ) → slice_index xs q ≡ slice_index ys q) → xs ≡ ys
-same-from [] [] e h = refl
-same-from [] (y ∷ ys) e h = absurd (omega (arith, e))
-same-from (x ∷ xs) [] e h = absurd (omega (arith, e))
-same-from (x ∷ xs) (y ∷ ys) e h = λ i. h 0 i ∷ same-from xs ys (omega (arith, e)) (λ q. h (suc q)) i
-
-drop-same : (n : ℕ) (xs ys : List ℕ) → length xs ≡ length ys → ((q : ℕ) → n ≤ q → slice_index xs q ≡ slice_index ys q) → drop n xs ≡ drop n ys
-drop-same zero xs ys e h = same-from xs ys e (λ q. h q (omega arith))
-drop-same (suc n) [] [] e h = refl
-drop-same (suc n) [] (y ∷ ys) e h = absurd (omega (arith, e))
-drop-same (suc n) (x ∷ xs) [] e h = absurd (omega (arith, e))
-drop-same (suc n) (x ∷ xs) (y ∷ ys) e h = drop-same n xs ys (omega (arith, e)) (λ q l. h (suc q) (omega (arith, l)))
-
-few-pass : (p : ℕ → Bool) (xs : List ℕ) → length (filter p xs) ≤ length xs
-few-pass p [] = omega arith
-few-pass p (x ∷ xs) = go (p x) (few-pass p xs)
-  where
-    go : (b : Bool) → length (filter p xs) ≤ length xs → length (if b then x ∷ filter p xs else filter p xs) ≤ suc (length xs)
-    go true h = omega (arith, h)
-    go false h = omega (arith, h)
 
 -- ---- a job that asks for a simulation
 
@@ -188,18 +168,6 @@ lowered-below (suc n) (x ∷ xs) hand (suc q) = lowered-below n xs hand q
 
 abbrev asking : Job → Query → Job
 asking job q = record { graph = job.graph; query = q; settings = job.settings }
-
--- a fragment of a job has no more places than two for each vertex
-pub few-places : (job : Job) → IsJob job → (part : FragmentLists) → part ≡ fragment_of job part.number → place_count part < 2 ^ 32
-few-places job is_job part is_part =
-    let i = part.number in
-    let count = count_of job.graph in
-    let same = ap (λ (p : FragmentLists). place_count p) is_part in
-    let owned = few-pass (λ v. owner job v == i) (range_with_len 0 count) in
-    let mirrors = few-pass (λ v. not (owner job v == i) && is_read_in job i v) (range_with_len 0 count) in
-    let all = length-range_with_len 0 count in
-    let few = is_job.graph.few_vertices in
-    omega (arith, same, owned, mirrors, all, few)
 
 module _ (targets : List ℕ) (job : Job) (is_for : IsSimJob targets job) (part : FragmentLists) (local : LocalValues) (n : ℕ) (ready : IsReadyFor (equations_of job) job part local n) where
   pub ready-fits : FitsPart part local

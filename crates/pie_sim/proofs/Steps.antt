@@ -1,10 +1,8 @@
 -- Steps by which values fall.
-use Rattle.std.proofs.Common.{◌≡◌, ◌≢◌, ℕ, zero, suc, ◌+◌, ◌*◌, ◌<◌, ◌≤◌, ◌⊎◌, inl, inr, Bool, true, false, ◌||◌, cond, if◌then◌else◌, nat_eq, refl, sym, ◌∙◌, ap, subst, arith, List, [], ◌∷◌, ◌++◌, length, slice_index, slice_index_or, Contains, Some, IsTrue, count_ones, sum_by}
+use Rattle.std.proofs.Common.{◌≡◌, ◌≢◌, ℕ, zero, suc, ◌+◌, ◌*◌, ◌<◌, ◌≤◌, ◌⊎◌, inl, inr, Bool, true, false, refl, sym, ◌∙◌, ap, subst, arith, List, [], length, slice_index, slice_index_or, Contains, Some, IsTrue, count_ones, sum_by}
 use Rattle.std.specs.Prelude.{slice_set}
 use Rattle.std.proofs.lemmas.Bool.{cases_eq}
-use Rattle.std.proofs.lemmas.Bool.Decides.{nat_tests}
 use Rattle.std.proofs.lemmas.List.{get_or-set_same, get_or-set_other, length-set, set-get_or}
-use Rattle.std.proofs.lemmas.List.Folds.{list_any-append}
 use Rattle.std.proofs.lemmas.List.Sums.{sum_by-set}
 use Rattle.value_order.specs.declared.order.Order.TheVariants.{Mask}
 use Rattle.value_order.specs.Order.{Below}
@@ -16,39 +14,10 @@ use Rattle.graph_core.proofs.Lists.{any_from, any_gives}
 use Rattle.pie_core.specs.PlaceLists.{waits}
 use Rattle.pie_core.specs.Locals.{LocalValues}
 use Rattle.pie_core.specs.LocalCalls.{with_value, TakesOldest}
+use Rattle.pie_core.proofs.Places.{still_waits}
 use Rattle.pie_sim.specs.SimJobs.{HasBit}
 use Rattle.pie_sim.specs.Falling.{is_read, IsSupported, AreSupported, IsSettled, IsSettledBut, ReadersAreListed, ReadersWait, FitsPart, work_left, HasLowered, HasFallen}
 use Rattle.pie_sim.proofs.Bits.{below-bit, bit-below}
-
--- ---- who waits
-
-pub waits_on : (waiting : List ℕ) (p q : ℕ) → waits waiting q ≡ true → waits (if waits waiting p then waiting else waiting ++ p ∷ []) q ≡ true
-waits_on waiting p q h = go (waits waiting p)
-  where
-    left : (a b : Bool) → a ≡ true → (a || b) ≡ true
-    left a b e = rw e refl
-
-    go : (c : Bool) → waits (cond c waiting (waiting ++ p ∷ [])) q ≡ true
-    go true = h
-    go false = list_any-append (nat_eq q) waiting (p ∷ []) ∙ left (waits waiting q) (nat_eq q p || false) h
-
-pub waits_new : (waiting : List ℕ) (p : ℕ) → waits (if waits waiting p then waiting else waiting ++ p ∷ []) p ≡ true
-waits_new waiting p = go (waits waiting p) refl
-  where
-    right : (a b : Bool) → b ≡ true → (a || (b || false)) ≡ true
-    right true b e = refl
-    right false b e = rw e refl
-
-    go : (c : Bool) → waits waiting p ≡ c → waits (cond c waiting (waiting ++ p ∷ [])) p ≡ true
-    go true e = e
-    go false e = list_any-append (nat_eq p) waiting (p ∷ []) ∙ right (waits waiting p) (nat_eq p p) (grind (arith, nat_tests))
-
-still_waits : (waiting : List ℕ) (place q : ℕ) → q ≢ place → waits (place ∷ waiting) q ≡ true → waits waiting q ≡ true
-still_waits waiting place q d h = go (nat_eq q place) refl h
-  where
-    go : (c : Bool) → nat_eq q place ≡ c → (c || waits waiting q) ≡ true → waits waiting q ≡ true
-    go true e k = absurd (d (grind (arith, nat_tests, e)))
-    go false e k = k
 
 -- ---- one place gets a lower value
 

@@ -1,4 +1,4 @@
--- A fragment of a job that is loaded with its start values is ready to be evaluated, and one that was evaluated is again.
+-- A fragment of a job that is loaded with its start values is ready to be evaluated.
 use Rattle.std.proofs.Common.{◌≡◌, ℕ, ◌+◌, ◌*◌, ◌<◌, ◌^◌, refl, sym, ◌∙◌, ap, subst, arith, List, ◌++◌, length, slice_index, slice_index_or}
 use Rattle.std.proofs.lemmas.List.{get_or_default, length-append, length-map, length-replicate, length-take-le}
 use Rattle.std.proofs.lemmas.List.FromFn.{length-map-range_with_len, get_or-map-range_with_len}
@@ -10,11 +10,10 @@ use Rattle.graph_core.specs.Queries.{equations_of}
 use Rattle.graph_core.specs.Fragments.{owned_of, mirrors_of, fragment_of, fragments_of}
 use Rattle.graph_core.proofs.Cutting.{stands_left, stands_right}
 use Rattle.fragment_cut.proofs.Placing.{places_inside, few_owned, few_mirrors}
-use Rattle.message_buffer.specs.HandValues.{HandValues}
 use Rattle.pie_core.specs.Locals.{LocalValues}
 use Rattle.pie_core.specs.LocalCalls.{new_local, loaded}
-use Rattle.pie_core.specs.Solutions.{AllBelow, IsLocalSolution, IsReadyFor, IsReadyAgain, starts_of}
-use Rattle.pie_core.proofs.Lists.{AllBelow-refl, AllBelow-trans}
+use Rattle.pie_core.specs.Solutions.{AllBelow, IsReadyFor, starts_of}
+use Rattle.pie_core.proofs.Lists.{AllBelow-refl}
 
 -- ---- the vertices of a fragment are the job's
 
@@ -55,21 +54,6 @@ loaded-ready e job part made local counters n starts same number is_part is_star
       owned = before ∙ kept ∙ owned;
       room = ap (λ (l : LocalValues). length l.counters) is_local ∙ ap (λ (l : LocalValues). length l.counters) is_made ∙ length-replicate (length part.owned * counters) 0 ∙ ap (λ m. length part.owned * m) is_count;
     }
-
--- what was evaluated can be evaluated again
-pub ready-again : (e : Equations) (job : Job) (part : FragmentLists) (old new : LocalValues) (counters : ℕ) (hand : HandValues) → IsReadyFor e job part old counters → IsLocalSolution e part.owned part.mirrors old.values new.values
-    → new.before ≡ old.before → length new.counters ≡ length old.counters → length hand.values ≡ length part.mirrors → IsReadyAgain e job part new counters hand
-ready-again e job part old new counters hand ready solution before room mirrors = record {
-  ready = record {
-    number = ready.number;
-    is_part = ready.is_part;
-    below_start = AllBelow-trans e.order new.values old.values (starts_of e (part.owned ++ part.mirrors)) solution.candidate.below ready.below_start;
-    owned = ap length before ∙ ready.owned;
-    room = room ∙ ready.room;
-  };
-  solved = solution.candidate.equations;
-  mirrors = mirrors;
-}
 
 -- ---- the fragments of a job, one by one
 

@@ -4,7 +4,7 @@ use Rattle.std.proofs.lemmas.List.{get_or_default}
 use Rattle.graph_core.specs.declared.fragment.Reading.{Reading}
 use Rattle.pie_core.specs.PlaceLists.{waits}
 use Rattle.pie_core.specs.Locals.{LocalValues}
-use Rattle.pie_sim.proofs.Steps.{waits_on, waits_new}
+use Rattle.pie_core.proofs.Places.{waits_on, waits_new}
 use Rattle.pie_sim.proofs.lowering.list_readers.Goals as goal
 
 pub row-preserved : goal.row-preserved
