@@ -1,5 +1,5 @@
 -- What the steps of an open tell of the whole file.
-use Rattle.std.proofs.Common.{◌≡◌, ◌≢◌, ℕ, ◌+◌, ◌<◌, ◌≤◌, Bool, true, false, not, ◌&&◌, ◌||◌, nat_le, nat_lt, if◌then◌else◌, List, [], ◌∷◌, ◌++◌, map, replicate, slice_index, ◌==◌, take, drop, length, Option, Some, None, is_some, Result, Ok, Err, refl, sym, ap, ◌∙◌, subst, arith, length-append}
+use Rattle.std.proofs.Common.{◌≡◌, ℕ, ◌+◌, ◌<◌, ◌≤◌, Bool, true, false, not, ◌||◌, nat_lt, if◌then◌else◌, List, [], ◌∷◌, ◌++◌, map, replicate, slice_index, ◌==◌, take, drop, length, Option, Some, None, is_some, Result, Ok, Err, refl, sym, ap, ◌∙◌, subst, arith, length-append}
 use Rattle.std.proofs.lemmas.Bool.Decides.{nat_tests}
 use Rattle.std.proofs.lemmas.List.{length-replicate, get_or-take, take_at, drop-drop}
 use Rattle.byteorder.specs.Endian.{big_bytes}
@@ -8,9 +8,9 @@ use Rattle.grape_disk.specs.Images.{piece}
 use Rattle.token_cut.specs.Parts.{SnapshotParts}
 use Rattle.token_cut.specs.Shapes.{PartStarts, Starts, HaveShape, fresh_part}
 use Rattle.snapshot_file.specs.Lengths.{slot_length, file_length}
-use Rattle.snapshot_store.specs.State.{FileState, OPEN, NAME, front_bytes, is_open, first_wrong, damaged_if, header, by_header, by_slot, by_slots, or_by_slots, slot, slot_place, file_state, epoch_of, IsKept, HasEpoch}
+use Rattle.snapshot_store.specs.State.{FileState, OPEN, NAME, front_bytes, is_open, first_wrong, damaged_if, header, by_header, is_first_newest, by_slot, by_slots, or_by_slots, slot, slot_place, file_state, IsKept, HasEpoch}
 use Rattle.snapshot_store.specs.State.FileState.{nothing, other, last}
-use Rattle.snapshot_store.specs.Opening.{newest, SlotSays, SlotsSay}
+use Rattle.snapshot_store.specs.Opening.{SlotSays, SlotsSay}
 use Rattle.snapshot_store.specs.declared.fault.StoreFault.{StoreFault}
 use Rattle.snapshot_store.specs.declared.fault.StoreFault.TheVariants.{Disk, Other, Damaged, NoMemory}
 use Rattle.std.specs.Result.{IsErrAnd}
@@ -78,42 +78,13 @@ header_front shape digest front size long size_is is =
 
 -- ---- the slots
 
-module _ (shape : Starts) (zero one : List ℕ) where
-  abbrev later : Bool
-  later = nat_le (epoch_of one) (epoch_of zero)
+first_of : (c : Bool) (x y : FileState) → c ≡ true → (if c then x else y) ≡ x
+first_of true x y is = refl
+first_of false x y is = cc
 
-  pub no_slot : newest zero one ≡ None → by_slots shape zero one ≡ nothing
-  no_slot is = none_of (is_open zero) (is_open one) later (by_slot shape 0 zero) (by_slot shape 1 one) is
-    where
-      none_of : (a b c : Bool) (x y : FileState) → (let r : Option ℕ = if a && (not b || c) then Some 0 else if b then Some 1 else None in r) ≡ None → (if a && (not b || c) then x else if b then y else nothing) ≡ nothing
-      none_of true true true x y is = cc
-      none_of true true false x y is = cc
-      none_of true false c x y is = cc
-      none_of false true c x y is = cc
-      none_of false false c x y is = refl
-
-  pub slot_zero : newest zero one ≡ Some 0 → by_slots shape zero one ≡ by_slot shape 0 zero
-  slot_zero is = zero_of (is_open zero) (is_open one) later (by_slot shape 0 zero) (by_slot shape 1 one) is
-    where
-      zero_of : (a b c : Bool) (x y : FileState) → (let r : Option ℕ = if a && (not b || c) then Some 0 else if b then Some 1 else None in r) ≡ Some 0 → (if a && (not b || c) then x else if b then y else nothing) ≡ x
-      zero_of true true true x y is = refl
-      zero_of true true false x y is = cc
-      zero_of true false c x y is = refl
-      zero_of false true c x y is = cc
-      zero_of false false c x y is = cc
-
-  pub slot_one : (k : ℕ) → newest zero one ≡ Some k → k ≢ 0 → by_slots shape zero one ≡ by_slot shape 1 one
-  slot_one k is not_zero = one_of (is_open zero) (is_open one) later (by_slot shape 0 zero) (by_slot shape 1 one) k is not_zero
-    where
-      same_some : (m n : ℕ) → (let r : Option ℕ = Some m in r) ≡ Some n → m ≡ n
-      same_some m n e = cc
-
-      one_of : (a b c : Bool) (x y : FileState) (k : ℕ) → (let r : Option ℕ = if a && (not b || c) then Some 0 else if b then Some 1 else None in r) ≡ Some k → k ≢ 0 → (if a && (not b || c) then x else if b then y else nothing) ≡ y
-      one_of true true true x y k is not_zero = absurd (not_zero (sym (same_some 0 k is)))
-      one_of true true false x y k is not_zero = refl
-      one_of true false c x y k is not_zero = absurd (not_zero (sym (same_some 0 k is)))
-      one_of false true c x y k is not_zero = refl
-      one_of false false c x y k is not_zero = cc
+second_of : (c : Bool) (x y : FileState) → c ≡ false → (if c then x else y) ≡ y
+second_of true x y is = cc
+second_of false x y is = refl
 
 -- ---- the file
 
@@ -139,36 +110,32 @@ slots_handed : (state : FileState) (r : Result (Option SnapshotParts) StoreFault
 slots_handed state (Ok x) e is says = absurd is
 slots_handed state (Err x) e is says = subst (λ f. SlotsSay state (Err f)) (sym is) says
 
--- ---- the slots of some bytes
+-- ---- what the slots that were cut from some bytes stand for
 
-module _ (shape : Starts) (bytes behind : List ℕ) (size : ℕ) (size_is : size ≡ slot_length shape) (behind_is : behind ≡ drop 64 bytes) where
-  pub first_slot : (zero : List ℕ) → zero ≡ take size behind → zero ≡ slot shape 0 bytes
-  first_slot zero is =
+module _
+    (shape : Starts) (bytes behind rest zero one : List ℕ) (size : ℕ) (size_is : size ≡ slot_length shape) (behind_is : behind ≡ drop 64 bytes) (zero_is : zero ≡ take size behind) (rest_is : rest ≡ drop size behind) (one_is : one ≡ take size rest) where
+  first_slot : zero ≡ slot shape 0 bytes
+  first_slot =
       let place : 64 ≡ slot_place shape 0 = omega arith in
-      is ∙ ap (λ (n : ℕ). take n behind) size_is ∙ ap (take (slot_length shape)) behind_is ∙ ap (λ (n : ℕ). take (slot_length shape) (drop n bytes)) place
+      zero_is ∙ ap (λ (n : ℕ). take n behind) size_is ∙ ap (take (slot_length shape)) behind_is ∙ ap (λ (n : ℕ). take (slot_length shape) (drop n bytes)) place
 
-  pub second_slot : (rest one : List ℕ) → rest ≡ drop size behind → one ≡ take size rest → one ≡ slot shape 1 bytes
-  second_slot rest one rest_is is =
+  second_slot : one ≡ slot shape 1 bytes
+  second_slot =
       let place : 64 + slot_length shape ≡ slot_place shape 1 = omega arith in
-      is ∙ ap (λ (n : ℕ). take n rest) size_is
+      one_is ∙ ap (λ (n : ℕ). take n rest) size_is
       ∙ ap (take (slot_length shape)) (rest_is ∙ ap (λ (n : ℕ). drop n behind) size_is ∙ ap (drop (slot_length shape)) behind_is ∙ drop-drop (slot_length shape) 64 bytes ∙ ap (λ (n : ℕ). drop n bytes) place)
 
--- what the slots that were read stand for
-module _ (shape : Starts) (bytes zero one : List ℕ) (zero_is : zero ≡ slot shape 0 bytes) (one_is : one ≡ slot shape 1 bytes) where
   both_are : by_slots shape (slot shape 0 bytes) (slot shape 1 bytes) ≡ by_slots shape zero one
-  both_are = ap (λ (l : List ℕ). by_slots shape l (slot shape 1 bytes)) (sym zero_is) ∙ ap (by_slots shape zero) (sym one_is)
+  both_are = ap (λ (l : List ℕ). by_slots shape l (slot shape 1 bytes)) (sym first_slot) ∙ ap (by_slots shape zero) (sym second_slot)
 
-  pub none_at : newest zero one ≡ None → by_slots shape (slot shape 0 bytes) (slot shape 1 bytes) ≡ nothing
-  none_at is = both_are ∙ no_slot shape zero one is
+  pub zero_at : is_first_newest zero one ≡ true → by_slot shape 0 zero ≡ by_slots shape (slot shape 0 bytes) (slot shape 1 bytes)
+  zero_at first = sym (both_are ∙ first_of (is_first_newest zero one) _ _ first)
 
-  pub zero_at : (k : ℕ) → newest zero one ≡ Some k → k ≡ 0 → by_slot shape 0 zero ≡ by_slots shape (slot shape 0 bytes) (slot shape 1 bytes)
-  zero_at k is k_is = sym (both_are ∙ slot_zero shape zero one (is ∙ ap found k_is))
-    where
-      found : ℕ → Option ℕ
-      found n = Some n
+  pub one_at : is_first_newest zero one ≡ false → is_open one ≡ true → by_slot shape 1 one ≡ by_slots shape (slot shape 0 bytes) (slot shape 1 bytes)
+  one_at later opened = sym (both_are ∙ second_of (is_first_newest zero one) _ _ later ∙ first_of (is_open one) _ _ opened)
 
-  pub one_at : (k : ℕ) → newest zero one ≡ Some k → k ≢ 0 → by_slot shape 1 one ≡ by_slots shape (slot shape 0 bytes) (slot shape 1 bytes)
-  one_at k is not_zero = sym (both_are ∙ slot_one shape zero one k is not_zero)
+  pub none_at : is_first_newest zero one ≡ false → is_open one ≡ false → by_slots shape (slot shape 0 bytes) (slot shape 1 bytes) ≡ nothing
+  none_at later closed = both_are ∙ second_of (is_first_newest zero one) _ _ later ∙ second_of (is_open one) _ _ closed
 
 pub error_at : (a b : FileState) (r : Result (Option SnapshotParts) StoreFault) (e : StoreFault) → a ≡ b → IsErrAnd r (λ x. x ≡ e) → SlotSays a (Err e) → SlotsSay b r
 error_at a b r e same is says = slots_handed b r e is (slot_error b e (subst (λ s. SlotSays s (Err e)) same says))

@@ -1,8 +1,8 @@
 -- What an open answers.
-use Rattle.std.specs.Prelude.{◌≡◌, ◌≢◌, ℕ, Bool, true, false, not, ◌&&◌, ◌||◌, nat_le, if◌then◌else◌, List, Option, Some, None, Result, Ok, Err}
+use Rattle.std.specs.Prelude.{◌≡◌, ◌≢◌, ℕ, Bool, true, false, List, Option, Some, None, Result, Ok, Err}
 use Rattle.token_cut.specs.Shapes.{Starts}
 use Rattle.token_cut.specs.Parts.{SnapshotParts}
-use Rattle.snapshot_store.specs.State.{FileState, is_open, epoch_of, file_state, IsKept}
+use Rattle.snapshot_store.specs.State.{FileState, file_state, IsKept}
 use Rattle.snapshot_store.specs.State.FileState.{nothing, other, damaged, last}
 use Rattle.snapshot_store.specs.declared.fault.StoreFault.{StoreFault}
 use Rattle.snapshot_store.specs.declared.fault.StoreFault.TheVariants.{Disk, Other, Damaged, NoMemory}
@@ -34,13 +34,6 @@ HeaderSays digest says (Err (Other kept here)) = (says ≡ Some (other kept)) ×
 HeaderSays digest says (Err (Damaged place)) = says ≡ Some (damaged place)
 HeaderSays digest says (Err Disk) = ⊥
 HeaderSays digest says (Err NoMemory) = Unit {0}
-
--- which slot a file stands for
-abbrev pub newest : List ℕ → List ℕ → Option ℕ
-newest zero one =
-    if is_open zero && (not (is_open one) || nat_le (epoch_of one) (epoch_of zero)) then Some 0
-    else if is_open one then Some 1
-    else None
 
 -- what reading a slot tells
 abbrev pub SlotSays : FileState → Result SnapshotParts StoreFault → Type 0

@@ -69,10 +69,14 @@ state_of (Err place) = damaged place
 abbrev pub by_slot : Starts → ℕ → List ℕ → FileState
 by_slot shape k bytes = state_of (decoded shape k (slot_place shape k + 1) (drop 1 bytes))
 
+-- whether a file stands for slot 0: it is open, and slot 1 is closed or has no larger epoch
+abbrev pub is_first_newest : List ℕ → List ℕ → Bool
+is_first_newest zero one = is_open zero && (not (is_open one) || nat_le (epoch_of one) (epoch_of zero))
+
 -- the open slot, and of two the one with the larger epoch
 abbrev pub by_slots : Starts → List ℕ → List ℕ → FileState
 by_slots shape zero one =
-    if is_open zero && (not (is_open one) || nat_le (epoch_of one) (epoch_of zero)) then by_slot shape 0 zero
+    if is_first_newest zero one then by_slot shape 0 zero
     else if is_open one then by_slot shape 1 one
     else nothing
 

@@ -2,8 +2,8 @@
 ghost use Rattle.std.specs.Prelude.{◌≡◌, ◌≤◌, ◌<◌, ◌^◌, length};
 ghost use Rattle.token_cut.specs.Shapes.{IsShape};
 ghost use Rattle.snapshot_file.specs.Lengths.{slot_length, file_length};
-ghost use Rattle.snapshot_store.specs.State.{by_slot, by_slots, slot, slot_place};
-ghost use Rattle.snapshot_store.specs.Opening.{newest, SlotSays, SlotsSay};
+ghost use Rattle.snapshot_store.specs.State.{is_first_newest, by_slot, by_slots, slot, slot_place};
+ghost use Rattle.snapshot_store.specs.Opening.{SlotSays, SlotsSay};
 
 use crate::fault::StoreFault;
 use crate::steps::OPEN;
@@ -25,30 +25,24 @@ pub(crate) fn read_slots(
     let (_, behind) = bytes.split_at(64);
     let (zero, behind) = behind.split_at(size as usize);
     let (one, _) = behind.split_at(size as usize);
-    match newest(zero, one) {
-        None => Ok(None),
-        Some(0) => Ok(Some(read_slot(alloc, zero, 64, 0, shape)?)),
-        Some(_) => Ok(Some(read_slot(alloc, one, 64 + size, 1, shape)?)),
+    if is_first_newest(zero, one) {
+        Ok(Some(read_slot(alloc, zero, 64, 0, shape)?))
+    } else if one[0] == OPEN {
+        Ok(Some(read_slot(alloc, one, 64 + size, 1, shape)?))
+    } else {
+        Ok(None)
     }
 }
 
-/// The slot that a file stands for: the open one, and of two the one with the larger epoch.
-fn newest(zero: &[u8], one: &[u8]) -> Option<u64>
+/// Whether a file with these slots stands for the first: it is open, and the second is closed or has no larger epoch.
+fn is_first_newest(zero: &[u8], one: &[u8]) -> bool
     requires zero { 9 ≤ length zero.now }
     requires one { 9 ≤ length one.now }
-    ensures { result ≡ newest zero.now one.now }
+    ensures { result ≡ is_first_newest zero.now one.now }
 {
     let (_, zero_body) = zero.split_at(1);
     let (_, one_body) = one.split_at(1);
-    let first = zero[0] == OPEN;
-    let second = one[0] == OPEN;
-    if first && (!second || epoch_of(one_body) <= epoch_of(zero_body)) {
-        Some(0)
-    } else if second {
-        Some(1)
-    } else {
-        None
-    }
+    zero[0] == OPEN && (one[0] != OPEN || epoch_of(one_body) <= epoch_of(zero_body))
 }
 
 /// The snapshot that stands in a slot at a place of the file.
