@@ -2,7 +2,7 @@
 use Rattle.std.proofs.Common.{◌≡◌, ℕ, ◌+◌, ◌≤◌, Bool, true, false, not, ◌||◌, ◌==◌, if◌then◌else◌, refl, sym, ◌∙◌, ap, subst, arith, List, [], ◌∷◌, ◌++◌, length, map, filter, slice_index_or, All}
 use Rattle.std.specs.List.{AllZip, list_any}
 use Rattle.std.proofs.lemmas.Bool.{false≢true, true≢false}
-use Rattle.std.proofs.lemmas.List.{append-nil, length-map, length-append, length-replicate}
+use Rattle.std.proofs.lemmas.List.{append-nil, length-map, length-append}
 use Rattle.std.proofs.lemmas.List.Sums.{length-filter, count_by-le-length}
 use Rattle.std.proofs.lemmas.List.FromFn.{length-range_with_len, length-map-range_with_len, get_or-map-range_with_len}
 use Rattle.std.proofs.lemmas.Slice.Zip.{AllZip-long}
@@ -15,9 +15,10 @@ use Rattle.graph_core.specs.Fragments.{piece_of, places, numbers_below, fragment
 use Rattle.message_buffer.specs.BufferValues.{BufferValues}
 use Rattle.message_buffer.specs.Buffers.{with_batch}
 use Rattle.token_cut.specs.Parts.{PartValues, SnapshotParts}
-use Rattle.token_cut.specs.Shapes.{PartStarts, fresh_part, sizes_of, sizes_in}
+use Rattle.token_cut.specs.Shapes.{PartStarts, sizes_in}
 use Rattle.token_cut.specs.CutValues.{CutValues}
 use Rattle.token_cut.specs.Recording.{new_cut}
+use Rattle.token_cut.proofs.Sizing.{sizes_stay}
 use Rattle.pie_core.specs.Solutions.{starts_of}
 use Rattle.base_machine.specs.Machine.{Post, system_of, is_empty, posts_from}
 use Rattle.base_machine.specs.Fitness.{IsInForm, IsPartInForm}
@@ -123,15 +124,7 @@ no_parts_left order counters fragments parts made all none h =
 
 -- ---- the recording
 
-fresh_sizes : (shape : List PartStarts) → sizes_of (map fresh_part shape) ≡ sizes_in shape
-fresh_sizes [] = refl
-fresh_sizes (starts ∷ shape) =
-    let values = length-append starts.owned starts.mirrors in
-    let mail = length-replicate (length starts.mirrors) NOTHING in
-    let more = fresh_sizes shape in
-    λ i. (values i, mail i) ∷ more i
-
 pub cut_is_empty : (every : ℕ) (order : Order) (fragments : List FragmentLists) (shape : List PartStarts) → (1 ≤ every → sizes_in shape ≡ map (λ part. (place_count part, length part.mirrors)) fragments) → (cut : CutValues) → cut ≡ new_cut (record { order = order; parts = shape }) →
     IsEmptyCut every order fragments cut
 cut_is_empty every order fragments shape sizes cut is =
-    subst (IsEmptyCut every order fragments) (sym is) (record { meets = refl; closed = refl; sizes = λ h. fresh_sizes shape ∙ sizes h })
+    subst (IsEmptyCut every order fragments) (sym is) (record { meets = refl; closed = refl; sizes = λ h. sizes_stay.new (record { order = order; parts = shape }) ∙ sizes h })
