@@ -81,7 +81,7 @@ fn drive<P: Pie, Q: Pacer>(
     Ok(kept)
 }
 
-/// The answer of a hub whose journal ends by End, and its journal.
+/// The answer of a hub whose journal ends by End, and its journal. Of another hub it answers `NoMemory`.
 fn answer_at_end<P: Pie, Q: Pacer>(
     alloc: Global,
     job: &Job,

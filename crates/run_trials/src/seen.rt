@@ -23,7 +23,7 @@ fn marks_after(marks: Option<u64>, event: Event) -> Option<u64> {
     }
 }
 
-/// What is seen in an event.
+/// What is seen in an event, with what was seen before.
 fn saw(seen: Seen, marks: Option<u64>, event: Event) -> Seen {
     let mut seen = seen;
     match event {
@@ -43,7 +43,7 @@ fn saw(seen: Seen, marks: Option<u64>, event: Event) -> Seen {
     seen
 }
 
-/// What is seen in a journal.
+/// What is seen in a journal, with what was seen before.
 pub(crate) fn saw_all(seen: Seen, journal: &Journal) -> Seen {
     let mut seen = seen;
     let mut marks = None;

@@ -110,8 +110,8 @@ fn do_lane<P: Pie, Q: Pacer>(
     }
 }
 
-/// One step of the coordinator or of a lane, by a number below 3. Says what the lanes have out then, and whether a snapshot
-/// was sealed.
+/// One step, by a number below 3: of the coordinator, of lane 0 or of lane 1. Says what the lanes have out then, and whether
+/// a snapshot was sealed.
 pub(crate) fn step<P: Pie, Q: Pacer>(
     hub: &mut Hub<P, Q>,
     into: &mut Snapshot,
