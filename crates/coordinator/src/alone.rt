@@ -150,11 +150,11 @@ pub(crate) fn ended<P: Pie, Q: Pacer>(
 }
 
 /// The event that ended a journal.
-pub(crate) fn last_event(journal: &Journal) -> Event
+fn last_event(journal: &Journal) -> Event
     requires { has_ended (reverse journal.now.events) ≡ true }
     ensures { LastEvent journal.now.events result }
 {
-    match journal.get(journal.len() - 1) {
+    match journal.last() {
         Some(event) => event,
         None => unreachable!(),
     }

@@ -2,19 +2,16 @@ ghost use Rattle.std.specs.Prelude.{IfOk};
 ghost use Rattle.graph_core.specs.Graphs.{IsJob};
 ghost use Rattle.graph_text.specs.Input.{IsBuilt};
 
-use crate::{Ran, Story, run_alone, shape_of};
-use answer_text::assemble;
+use crate::{Ran, run_alone, shape_of};
 use delay_stretch::{Calm, Pacer, Scripted};
 use fragment_cut::fragment;
 use grape_event::{Event, Journal};
-use graph_core::{Fragment, Job};
+use graph_core::Job;
 use graph_text::{LineReader, TextFault};
-use pie_core::Local;
 use std::alloc::Global;
 use std::marker::Send;
 use std::process::Abort;
 use std::test::Fail;
-use value_order::Order;
 
 /// The job of a text.
 fn job_of(alloc: Global, text: &str) -> Result<Job, TextFault>

@@ -1,5 +1,5 @@
 use Rattle.std.proofs.Common.{◌∙◌}
-use Rattle.program_trials.proofs.Starting.{nth-part}
+use Rattle.pie_core.proofs.Starting.{nth-part}
 use Rattle.pie_dist.proofs.compared.compare_all.Goals as goal
 
 pub compare-requires-clause-number : goal.compare-requires-clause-number

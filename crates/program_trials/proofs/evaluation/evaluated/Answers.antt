@@ -3,7 +3,7 @@ use Rattle.value_order.specs.declared.order.Order.TheVariants.{Least}
 use Rattle.message_buffer.specs.HandValues.{HandValues}
 use Rattle.pie_core.specs.Solutions.{IsReadyFor}
 use Rattle.pie_core.proofs.Steps.{solved_is_ready_again}
-use Rattle.program_trials.proofs.Starting.{loaded-ready}
+use Rattle.pie_core.proofs.Starting.{loaded-ready}
 use Rattle.program_trials.proofs.evaluation.evaluated.Goals as goal
 
 pub peval-requires : goal.peval-requires

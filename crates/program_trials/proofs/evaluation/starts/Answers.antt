@@ -1,4 +1,4 @@
-use Rattle.program_trials.proofs.Starting.{owned-inside, mirrors-inside}
+use Rattle.pie_core.proofs.Starting.{owned-inside, mirrors-inside}
 use Rattle.program_trials.proofs.evaluation.starts.Goals as goal
 
 pub starts_of-requires-clause-vertices : goal.starts_of-requires-clause-vertices

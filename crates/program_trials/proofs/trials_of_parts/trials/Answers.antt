@@ -1,5 +1,5 @@
 use Rattle.std.proofs.Common.{◌∙◌, arith}
-use Rattle.program_trials.proofs.Starting.{nth-part, part-count}
+use Rattle.pie_core.proofs.Starting.{nth-part, part-count}
 use Rattle.program_trials.proofs.trials_of_parts.trials.Goals as goal
 
 pub try_part-requires-clause-number : goal.try_part-requires-clause-number

@@ -1,21 +1,22 @@
 -- A fragment of a job that is loaded with its start values is ready to be evaluated.
-use Rattle.std.proofs.Common.{◌≡◌, ℕ, ◌+◌, ◌*◌, ◌<◌, ◌^◌, refl, sym, ◌∙◌, ap, subst, arith, List, ◌++◌, length, slice_index, slice_index_or}
+use Rattle.std.proofs.Common.{◌≡◌, ℕ, ◌+◌, ◌*◌, ◌^◌, ◌<◌, ◌≤◌, Bool, refl, sym, ◌∙◌, ap, subst, arith, List, ◌++◌, length, filter, slice_index, slice_index_or}
 use Rattle.std.proofs.lemmas.List.{get_or_default, length-append, length-map, length-replicate, length-take-le}
-use Rattle.std.proofs.lemmas.List.FromFn.{length-map-range_with_len, get_or-map-range_with_len}
+use Rattle.std.proofs.lemmas.List.Sums.{length-filter, count_by-le-length}
+use Rattle.std.proofs.lemmas.List.FromFn.{length-range_with_len, length-map-range_with_len, get_or-map-range_with_len}
 use Rattle.graph_core.specs.declared.job.Job.{Job}
 use Rattle.graph_core.specs.Graphs.{count_of, IsJob}
 use Rattle.graph_core.specs.Parts.{FragmentLists, place_count}
 use Rattle.graph_core.specs.Equations.{Equations}
 use Rattle.graph_core.specs.Queries.{equations_of}
-use Rattle.graph_core.specs.Fragments.{owned_of, mirrors_of, fragment_of, fragments_of}
+use Rattle.graph_core.specs.Fragments.{numbers_below, owned_of, mirrors_of, fragment_of, fragments_of}
 use Rattle.graph_core.proofs.Cutting.{stands_left, stands_right}
-use Rattle.fragment_cut.proofs.Placing.{places_inside, few_owned, few_mirrors}
 use Rattle.pie_core.specs.Locals.{LocalValues}
 use Rattle.pie_core.specs.LocalCalls.{new_local, loaded}
 use Rattle.pie_core.specs.Solutions.{AllBelow, IsReadyFor, starts_of}
 use Rattle.pie_core.proofs.Lists.{AllBelow-refl}
+use Rattle.pie_core.proofs.Bridge.{place_inside}
 
--- ---- the vertices of a fragment are the job's
+-- ---- the vertices of a fragment are the job's, and few
 
 pub owned-inside : (job : Job) → IsJob job → (part : FragmentLists) (us : List ℕ) → part.number < job.settings.fragments → part ≡ fragment_of job part.number → us ≡ part.owned → (k d : ℕ) → k < length us → slice_index_or us k d < count_of job.graph
 owned-inside job is_job part us small is_part same k d h =
@@ -24,7 +25,7 @@ owned-inside job is_job part us small is_part same k d h =
     let all : us ≡ vs = same ∙ ap (λ (p : FragmentLists). p.owned) is_part in
     let l : k < length vs = omega (arith, h, ap length all) in
     let there = stands_left vs (mirrors_of job i) k (slice_index vs k) (l, refl) in
-    omega (arith, places_inside job is_job i small k (slice_index vs k) there, ap (λ xs. slice_index_or xs k d) all, get_or_default vs k d 0 l)
+    omega (arith, place_inside job i is_job small k there.0, there.1, ap (λ xs. slice_index_or xs k d) all, get_or_default vs k d 0 l)
 
 pub mirrors-inside : (job : Job) → IsJob job → (part : FragmentLists) (us : List ℕ) → part.number < job.settings.fragments → part ≡ fragment_of job part.number → us ≡ part.mirrors → (k d : ℕ) → k < length us → slice_index_or us k d < count_of job.graph
 mirrors-inside job is_job part us small is_part same k d h =
@@ -33,7 +34,20 @@ mirrors-inside job is_job part us small is_part same k d h =
     let all : us ≡ vs = same ∙ ap (λ (p : FragmentLists). p.mirrors) is_part in
     let l : k < length vs = omega (arith, h, ap length all) in
     let there = stands_right (owned_of job i) vs k (slice_index vs k) (l, refl) in
-    omega (arith, places_inside job is_job i small (length (owned_of job i) + k) (slice_index vs k) there, ap (λ xs. slice_index_or xs k d) all, get_or_default vs k d 0 l)
+    omega (arith, place_inside job i is_job small (length (owned_of job i) + k) there.0, there.1, ap (λ xs. slice_index_or xs k d) all, get_or_default vs k d 0 l)
+
+few-pass : (test : ℕ → Bool) (n : ℕ) → length (filter test (numbers_below n)) ≤ n
+few-pass test n = omega (arith, length-filter test (numbers_below n), count_by-le-length test (numbers_below n), length-range_with_len 0 n)
+
+-- a fragment of a job has no more places than two for each vertex
+pub few-places : (job : Job) → IsJob job → (part : FragmentLists) → part ≡ fragment_of job part.number → place_count part < 2 ^ 32
+few-places job is_job part is_part =
+    let n = count_of job.graph in
+    let same = ap (λ (p : FragmentLists). place_count p) is_part in
+    let owned : length (owned_of job part.number) ≤ n = few-pass _ n in
+    let mirrors : length (mirrors_of job part.number) ≤ n = few-pass _ n in
+    let few = is_job.graph.few_vertices in
+    omega (arith, same, owned, mirrors, few)
 
 -- ---- the values at the start
 
@@ -67,9 +81,3 @@ nth-part job parts i part all inside here =
     let at : part ≡ fragment_of job i = here ∙ ap (λ ps. slice_index_or ps i part) all ∙ get_or-map-range_with_len (fragment_of job) 0 n i i part small (omega arith) in
     let number : part.number ≡ i = ap (λ (p : FragmentLists). p.number) at in
     (omega (arith, small, number), at ∙ ap (fragment_of job) (sym number))
-
--- a fragment of a job has no more places than two for each vertex
-pub few-places : (job : Job) → IsJob job → (part : FragmentLists) → part.number < job.settings.fragments → part ≡ fragment_of job part.number → place_count part < 2 ^ 32
-few-places job is_job part small is_part =
-    let same = ap (λ (p : FragmentLists). place_count p) is_part in
-    omega (arith, same, few_owned job is_job part.number small, few_mirrors job is_job part.number small)
