@@ -1,5 +1,6 @@
 pub mod Places
 pub mod Beginnings
+pub mod Forms
 pub mod Causes
 pub mod Turns
 pub mod Settled

@@ -14,7 +14,7 @@ use Rattle.graph_core.specs.Fragments.{numbers_below, owned_of, mirrors_of, frag
 use Rattle.token_cut.specs.Shapes.{PartStarts, IsPartShape, IsShape}
 use Rattle.coordinator.specs.Shapes.{starts_in, shape_of}
 
-numbers_inside : (n : ℕ) → All (λ v. v < n) (numbers_below n)
+pub numbers_inside : (n : ℕ) → All (λ v. v < n) (numbers_below n)
 numbers_inside n k d h = let l = length-range_with_len 0 n in let at = get_or-range_with_len 0 n k d (omega (arith, h, l)) in omega (arith, at, h, l)
 
 few_pass : (test : ℕ → Bool) (n : ℕ) → length (filter test (numbers_below n)) ≤ n

@@ -1,11 +1,17 @@
 ghost use Rattle.coordinator.specs.Runs.{DoneIsTheAnswer};
-ghost use Rattle.coordinator.specs.Shapes.{ShapesBeginRuns};
+ghost use Rattle.coordinator.specs.Shapes.{ShapesBeginRuns, FormsAgree};
 
 use legal_journal::{end_is_quiet, journal_runs, journals_grow};
 
 /// The fresh snapshot of a job's shape is the one with which a run of the job begins.
 pub fn shapes_begin_runs()
     ensures { ShapesBeginRuns }
+{}
+
+/// A snapshot may stand in a slot of the state file of a job exactly where its epoch is one of that slot, and it is in the
+/// form in which a run of the job may begin.
+pub fn forms_agree()
+    ensures { FormsAgree }
 {}
 
 /// Where a run is done, the values of the owners are the greatest solution of the job's equations, whatever the policy,

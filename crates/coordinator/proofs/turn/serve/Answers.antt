@@ -12,7 +12,8 @@ use Rattle.grape_hub.specs.Calls.{Chooses, ReadyWhereTook}
 use Rattle.grape_hub.specs.Theorems.{IsCalm}
 use Rattle.coordinator.specs.Turns.{GoesOn, HasNoDiskStop}
 use Rattle.coordinator.proofs.Causes.{disk_after, disk_after_lane}
-use Rattle.coordinator.proofs.Turns.{worker_has_part, part_of_worker, evaluates, solves, took_is_out, stopped_unchanged, given_after_take}
+use Rattle.lane_loop.proofs.Parts.{worker_has_part, part_of_worker, evaluates, solves}
+use Rattle.coordinator.proofs.Turns.{took_is_out, stopped_unchanged, given_after_take}
 use Rattle.coordinator.proofs.turn.serve.Goals as goal
 
 pub next-requires-clause-free : goal.next-requires-clause-free

@@ -2,7 +2,7 @@ use Rattle.std.proofs.Common.{sym, refl}
 use Rattle.graph_core.specs.Queries.{equations_of}
 use Rattle.graph_core.specs.Fragments.{fragment_of}
 use Rattle.grape_hub.proofs.Lanes.{works_may_be_evaluated, evaluated_may_be_given}
-use Rattle.coordinator.proofs.Turns.{worker_has_part, part_of_worker, evaluates, solves}
+use Rattle.lane_loop.proofs.Parts.{worker_has_part, part_of_worker, evaluates, solves}
 use Rattle.run_trials.proofs.Driving.{lane_gave, out_by_record}
 use Rattle.run_trials.proofs.steps.give_back.Goals as goal
 
