@@ -1,18 +1,18 @@
--- What a probe may be told, and which duty there is.
-use Rattle.std.proofs.Common.{◌≡◌, ℕ, suc, ◌+◌, ◌<◌, Bool, true, false, not, ◌&&◌, ◌||◌, nat_lt, nat_le, ◌-◌, ◌^◌, if◌then◌else◌, IsTrue, refl, sym, ◌∙◌, ap, subst, arith, List, [], ◌∷◌, length, reverse, slice_index_or, Option, Some, None}
+-- Which duty there is.
+use Rattle.std.proofs.Common.{◌≡◌, ℕ, suc, ◌+◌, ◌<◌, Bool, true, false, not, ◌&&◌, nat_lt, nat_le, ◌-◌, ◌^◌, if◌then◌else◌, IsTrue, refl, sym, ◌∙◌, ap, arith, List, [], ◌∷◌, length, reverse, slice_index_or, Option, Some, None}
 use Rattle.std.specs.List.{list_all, range_with_len}
-use Rattle.std.proofs.lemmas.Bool.{and_parts, not-true, eq-eqb, false≢true}
+use Rattle.std.proofs.lemmas.Bool.{eq-eqb, false≢true}
 use Rattle.graph_core.specs.Fragments.{numbers_below}
 use Rattle.grape_event.specs.declared.event.Event.{Event}
 use Rattle.grape_event.specs.declared.event.Event.TheVariants.{Take, Give, Stretch, Hold, Flag, Ask, Ack, Nack, Begin, Mark, Seal, Kept, End, Stop}
 use Rattle.token_cut.specs.Recording.{is_complete}
-use Rattle.base_machine.specs.Machine.{System, worker_at, rests, batch_waits}
+use Rattle.base_machine.specs.Machine.{System}
 use Rattle.legal_journal.specs.Past.{has_ended, last_epoch, recording_is_open, all_are_marked, all_begun_are_kept}
 use Rattle.legal_journal.specs.Past.{is_marked as was_marked}
-use Rattle.legal_journal.specs.Legal.{State, worker_count, rests_without_mail, row_admits, is_admitted, may_seal, may_begin, snapshot_is_due}
+use Rattle.legal_journal.specs.Legal.{State, worker_count, row_admits, is_admitted, may_seal, may_begin, snapshot_is_due}
 use Rattle.legal_journal.specs.Choices.{first_admitted, is_duty, duty_choice}
 use Rattle.stop_probe.specs.ProbeValues.{ProbeValues}
-use Rattle.stop_probe.specs.Probe.{may_flag, may_ask, may_answer, may_end, took_since_ask}
+use Rattle.stop_probe.specs.Probe.{may_ask, may_end}
 use Rattle.stop_probe.specs.Journals.{probe_at}
 use Rattle.stop_probe.proofs.Following.{meets_the_table}
 use Rattle.grape_hub.specs.HubValues.{HubValues}
@@ -20,41 +20,8 @@ use Rattle.grape_hub.specs.States.{machine, state_of, sealed_epoch, IsHub}
 use Rattle.grape_hub.specs.Desks.{Tables, TablesFit}
 use Rattle.grape_hub.specs.Kinds.{is_due}
 use Rattle.grape_hub.specs.Calls.{IsNote}
-use Rattle.grape_hub.specs.Hearing.{MayHear}
 use Rattle.grape_hub.proofs.Hubs.{ended_is}
 use Rattle.grape_hub.proofs.Snapshots.{SnapshotsAreInTurn, snapshots_of, kept_is}
-
--- ---- what the probe hears
-
--- the probe may be told of an event that is admitted
-pub heard : (sys : System) (s : State) (e : Event) (probe : ProbeValues) → probe ≡ probe_at s → IsNote e → is_admitted sys s e ≡ true → MayHear e probe
-heard sys s (Take i k) probe p n a = absurd n
-heard sys s (Give i) probe p n a = absurd n
-heard sys s (Stretch i t) probe p n a = absurd n
-heard sys s (Hold i) probe p n a = tt
-heard sys s (Flag i) probe p n a =
-    let row = (and_parts (not (has_ended s.past)) (row_admits sys s (Flag i)) a).1 in
-    subst (λ (q : ProbeValues). IsTrue (may_flag i q)) (sym p) (and_parts (may_flag i (probe_at s)) (rests_without_mail s i) (sym ((meets_the_table sys s).flag i) ∙ row)).0
-heard sys s Ask probe p n a =
-    let row = (and_parts (not (has_ended s.past)) (row_admits sys s Ask) a).1 in
-    subst (λ (q : ProbeValues). IsTrue (may_ask q)) (sym p) (sym (meets_the_table sys s).ask ∙ row)
-heard sys s (Ack i) probe p n a =
-    let row = (and_parts (not (has_ended s.past)) (row_admits sys s (Ack i)) a).1 in
-    let k = and_parts (may_answer i (probe_at s) && rests_without_mail s i) (not (took_since_ask i (probe_at s))) (sym ((meets_the_table sys s).ack i) ∙ row) in
-    subst (λ (q : ProbeValues). IsTrue (may_answer i q) × (took_since_ask i q ≡ false)) (sym p)
-    ((and_parts (may_answer i (probe_at s)) (rests_without_mail s i) k.0).0, not-true (took_since_ask i (probe_at s)) k.1)
-heard sys s (Nack i) probe p n a =
-    let row = (and_parts (not (has_ended s.past)) (row_admits sys s (Nack i)) a).1 in
-    let k = and_parts (may_answer i (probe_at s) && rests (worker_at s.workers i)) (batch_waits (worker_at s.workers i) || took_since_ask i (probe_at s)) (sym ((meets_the_table sys s).nack i) ∙ row) in
-    subst (λ (q : ProbeValues). IsTrue (may_answer i q)) (sym p) (and_parts (may_answer i (probe_at s)) (rests (worker_at s.workers i)) k.0).0
-heard sys s (Begin e) probe p n a = absurd n
-heard sys s (Mark i) probe p n a = absurd n
-heard sys s (Seal e) probe p n a = absurd n
-heard sys s (Kept e) probe p n a = absurd n
-heard sys s End probe p n a = tt
-heard sys s (Stop c) probe p n a = absurd n
-
--- ---- the coordinator's duty
 
 -- all marks are set where all numbers pass
 marks_all : (f : ℕ → Bool) (a : ℕ) (marks : List Bool) → ((k : ℕ) → k < length marks → slice_index_or marks k false ≡ f (a + k)) → list_all (λ mark. mark) marks ≡ list_all f (range_with_len a (length marks))

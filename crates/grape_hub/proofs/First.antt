@@ -26,6 +26,7 @@ use Rattle.legal_journal.specs.Past.{is_tagged}
 use Rattle.legal_journal.specs.Delays.{window}
 use Rattle.legal_journal.specs.Legal.{start_state, mail_with}
 use Rattle.legal_journal.proofs.Probes.{start_length}
+use Rattle.legal_journal.proofs.Journals.{no_mail}
 use Rattle.stop_probe.specs.Probe.{new_probe}
 use Rattle.stop_probe.specs.Journals.{probe_of}
 use Rattle.stop_probe.proofs.Following.{follows_events}
@@ -72,14 +73,9 @@ posted_at_start o m (p ∷ posts) =
     let met : mail_with o 0 (p ∷ posts) (replicate m NOTHING) ≡ met_posts o m ((p ∷ posts) ++ []) = mail_with-none o (p ∷ posts) 0 m ∙ ap (λ l. met_posts o m l) (sym (append-nil (p ∷ posts))) in
     plain_posts (p ∷ posts) (with_batch false (new_buffer o m)) ∙ λ t. record { order = o; plain = met t; tagged = sym none t; plain_batches = 1; tagged_batches = 0 }
 
-none_from : (n j : ℕ) → slice_index_or {A = List Batch} (replicate n []) j [] ≡ []
-none_from zero j = refl
-none_from (suc n) zero = refl
-none_from (suc n) (suc j) = none_from n j
-
 none_wait : (test : ℕ → Batch → Bool) (n : ℕ) (js : List ℕ) → flat_map (λ j. filter (test j) (slice_index_or {A = List Batch} (replicate n []) j [])) js ≡ []
 none_wait test n [] = refl
-none_wait test n (j ∷ js) = ap (λ l. filter (test j) l ++ flat_map (λ k. filter (test k) (slice_index_or {A = List Batch} (replicate n []) k [])) js) (none_from n j) ∙ none_wait test n js
+none_wait test n (j ∷ js) = ap (λ l. filter (test j) l ++ flat_map (λ k. filter (test k) (slice_index_or {A = List Batch} (replicate n []) k [])) js) (no_mail n j) ∙ none_wait test n js
 
 -- the batches that wait for a worker with these queues in a class
 abbrev waiting_from : Bool → List (List Batch) → List Event → ℕ → List Batch

@@ -1,5 +1,5 @@
 -- A Take takes all mail that waits, and leaves none.
-use Rattle.std.proofs.Common.{◌≡◌, ℕ, zero, suc, ◌+◌, ◌<◌, ◌≤◌, nat_lt, nat_le, cond, refl, sym, ◌∙◌, ap, subst, arith, List, [], ◌∷◌, ◌++◌, length, map, filter, flat_map, slice_index, slice_index_or, replicate, sum_by, append_assoc}
+use Rattle.std.proofs.Common.{◌≡◌, ℕ, zero, suc, ◌+◌, ◌<◌, ◌≤◌, nat_lt, nat_le, cond, refl, sym, ◌∙◌, ap, subst, arith, List, [], ◌∷◌, ◌++◌, length, map, filter, flat_map, slice_index, slice_index_or, replicate, sum_by}
 use Rattle.std.specs.List.{AllByRecursion, range_with_len}
 use Rattle.std.proofs.lemmas.Bool.{le-leb, le-ltb}
 use Rattle.std.proofs.lemmas.List.Sums.{sum_by-cons}
@@ -15,6 +15,7 @@ use Rattle.base_machine.proofs.Meets.{meet_all-lower}
 use Rattle.base_machine.proofs.Giving.{neutral}
 use Rattle.legal_journal.specs.Past.{gives_of_each}
 use Rattle.legal_journal.proofs.Journals.{IsCounted, counts-length, counts-at}
+use Rattle.legal_journal.proofs.Recording.{posts_append}
 
 -- ---- batches up to a number
 
@@ -27,10 +28,6 @@ keeps_none : (u : ℕ) (bs : List Batch) → AllByRecursion (λ (b : Batch). b.n
 keeps_none u [] h = refl
 keeps_none u (b ∷ bs) h =
     ap (λ t. cond t (b ∷ filter (λ c. nat_lt u c.number) bs) (filter (λ c. nat_lt u c.number) bs)) (le-ltb u b.number h.0) ∙ keeps_none u bs h.1
-
-posts_append : (xs ys : List Batch) → posts_in (xs ++ ys) ≡ posts_in xs ++ posts_in ys
-posts_append [] ys = refl
-posts_append (x ∷ xs) ys = ap (λ l. x.posts ++ l) (posts_append xs ys) ∙ sym (append_assoc x.posts (posts_in xs) (posts_in ys))
 
 -- each queue has numbers up to what upto says
 abbrev AreUpTo : List ℕ → List (List Batch) → Type 0

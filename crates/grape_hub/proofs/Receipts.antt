@@ -1,5 +1,5 @@
 -- What a batch leaves at the desk of the worker that gets it.
-use Rattle.std.proofs.Common.{◌≡◌, ◌≢◌, ℕ, zero, suc, ◌+◌, ◌<◌, ◌≤◌, inl, inr, Bool, true, false, not, ◌==◌, cond, if◌then◌else◌, refl, sym, ◌∙◌, ap, subst, arith, List, [], ◌∷◌, ◌++◌, append_assoc, length, length-append, length-set, map, filter, flat_map, slice_index, slice_index_or, slice_set, sum_by, take}
+use Rattle.std.proofs.Common.{◌≡◌, ◌≢◌, ℕ, zero, suc, ◌+◌, ◌<◌, ◌≤◌, inl, inr, Bool, true, false, not, ◌==◌, cond, if◌then◌else◌, refl, sym, ◌∙◌, ap, subst, arith, List, [], ◌∷◌, ◌++◌, length, length-append, length-set, map, filter, flat_map, slice_index, slice_index_or, slice_set, sum_by, take}
 use Rattle.std.proofs.lemmas.Bool.{eq-eqb, ne_eqb, cases_eq}
 use Rattle.std.proofs.lemmas.List.{append-nil, length-map, get_or-set_same, get_or-set_other, same_lists}
 use Rattle.std.proofs.lemmas.List.Elements.{filter-append}
@@ -18,17 +18,13 @@ use Rattle.message_buffer.specs.Buffers.{with_batch, with_post}
 use Rattle.base_machine.specs.Machine.{System, Worker, Rest, Post, Batch, worker_at, is_empty, posts_in, posts_to, met_posts, values_for, batches_waiting, after_receiving}
 use Rattle.legal_journal.specs.Past.{is_tagged}
 use Rattle.legal_journal.specs.Legal.{State, state_after, mail_with}
-use Rattle.legal_journal.proofs.Recording.{part_received}
+use Rattle.legal_journal.proofs.Recording.{mail_with-none, part_received, posts_append}
 use Rattle.grape_hub.specs.declared.desk.Desk.{Desk}
 use Rattle.grape_hub.specs.declared.sender.Sender.{Sender}
 use Rattle.grape_hub.specs.Desks.{buffer_of, waiting_in_class}
 use Rattle.grape_hub.specs.Posting.{with_posts, with_batch_of}
 
 -- ---- what is posted later
-
-mail_with-nothing : (o : Order) (a : ℕ) (xs : List ℕ) → mail_with o a [] xs ≡ xs
-mail_with-nothing o a [] = refl
-mail_with-nothing o a (x ∷ xs) = ap (λ l. x ∷ l) (mail_with-nothing o (a + 1) xs)
 
 values_here : (p : Post) (posts : List Post) (m : ℕ) → p.mirror ≡ m → values_for m (p ∷ posts) ≡ p.value ∷ values_for m posts
 values_here p posts m h = ap (λ b. map (λ q. q.value) (cond b (p ∷ filter (λ q. q.mirror == m) posts) (filter (λ q. q.mirror == m) posts))) (eq-eqb p.mirror m h)
@@ -56,13 +52,13 @@ mail_with-post o a (suc k) p posts (x ∷ xs) h =
 
 -- posts in a class lower what waits in it
 pub plain_posts : (posts : List Post) (b : BufferValues) → with_posts false posts b ≡ record b { plain = mail_with b.order 0 posts b.plain }
-plain_posts [] b = ap (λ l. record b { plain = l }) (sym (mail_with-nothing b.order 0 b.plain))
+plain_posts [] b = ap (λ l. record b { plain = l }) (sym (mail_with-none b.order 0 b.plain))
 plain_posts (p ∷ posts) b =
     plain_posts posts (with_post false p.mirror p.value b)
     ∙ ap (λ l. record b { plain = l }) (mail_with-post b.order 0 p.mirror p posts b.plain (omega arith))
 
 tagged_posts : (posts : List Post) (b : BufferValues) → with_posts true posts b ≡ record b { tagged = mail_with b.order 0 posts b.tagged }
-tagged_posts [] b = ap (λ l. record b { tagged = l }) (sym (mail_with-nothing b.order 0 b.tagged))
+tagged_posts [] b = ap (λ l. record b { tagged = l }) (sym (mail_with-none b.order 0 b.tagged))
 tagged_posts (p ∷ posts) b =
     tagged_posts posts (with_post true p.mirror p.value b)
     ∙ ap (λ l. record b { tagged = l }) (mail_with-post b.order 0 p.mirror p posts b.tagged (omega arith))
@@ -87,10 +83,6 @@ queue_in tagged s i q = filter (λ b. same_class tagged (is_tagged q b.number s.
 -- a worker for which the batches of a class wait, beside the posts of a start
 abbrev in_class : Bool → List Post → State → ℕ → Worker
 in_class tagged start s i = record { standing = Rest; values = []; gives = 0; start_posts = start; mail = map (queue_in tagged s i) (numbers_below (length s.workers)) }
-
-posts_append : (xs ys : List Batch) → posts_in (xs ++ ys) ≡ posts_in xs ++ posts_in ys
-posts_append [] ys = refl
-posts_append (x ∷ xs) ys = ap (λ l. x.posts ++ l) (posts_append xs ys) ∙ sym (append_assoc x.posts (posts_in xs) (posts_in ys))
 
 flat_posts : (f : ℕ → List Batch) (qs : List ℕ) → posts_in (flat_map f qs) ≡ flat_map posts_in (map f qs)
 flat_posts f [] = refl

@@ -215,7 +215,7 @@ after_give_counted n sys s i hi c =
     still true j w d = record { senders = d.senders; numbers = d.numbers }
     still false j w d = received_numbers n (Give i ∷ s.past) i ((worker_at s.workers i).gives + 1) (sent_to sys (piece_at sys.pieces i) (worker_at s.workers i) j) w hi one_more d
 
-no_mail : (n j : ℕ) → slice_index_or {A = List Batch} (replicate n []) j [] ≡ []
+pub no_mail : (n j : ℕ) → slice_index_or {A = List Batch} (replicate n []) j [] ≡ []
 no_mail zero j = refl
 no_mail (suc n) zero = refl
 no_mail (suc n) (suc j) = no_mail n j

@@ -24,7 +24,7 @@ map-same : (f g : ℕ → ℕ) (xs : List ℕ) → ((q : ℕ) → f q ≡ g q) �
 map-same f g [] h = refl
 map-same f g (x ∷ xs) h = let e = h x in let k = map-same f g xs h in λ i. e i ∷ k i
 
-mail_with-none : (o : Order) (a : ℕ) (xs : List ℕ) → mail_with o a [] xs ≡ xs
+pub mail_with-none : (o : Order) (a : ℕ) (xs : List ℕ) → mail_with o a [] xs ≡ xs
 mail_with-none o a [] = refl
 mail_with-none o a (x ∷ xs) = ap (λ l. x ∷ l) (mail_with-none o (a + 1) xs)
 
@@ -64,7 +64,7 @@ part_received sys piece j number (p ∷ posts) w h =
 
 -- ---- a Mark
 
-posts_append : (xs ys : List Batch) → posts_in (xs ++ ys) ≡ posts_in xs ++ posts_in ys
+pub posts_append : (xs ys : List Batch) → posts_in (xs ++ ys) ≡ posts_in xs ++ posts_in ys
 posts_append [] ys = refl
 posts_append (x ∷ xs) ys = ap (λ l. x.posts ++ l) (posts_append xs ys) ∙ sym (append_assoc x.posts (posts_in xs) (posts_in ys))
 
