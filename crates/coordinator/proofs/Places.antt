@@ -1,9 +1,8 @@
 -- The places of a job's fragments are vertices of the job, and few.
-use Rattle.std.proofs.Common.{◌≡◌, ℕ, ◌<◌, ◌≤◌, Bool, sym, ◌∙◌, ap, subst, arith, List, [], ◌∷◌, length, map, filter, take, slice_index_or, All}
+use Rattle.std.proofs.Common.{◌≡◌, ℕ, ◌<◌, ◌≤◌, sym, ◌∙◌, ap, subst, arith, List, [], ◌∷◌, length, map, take, slice_index_or, All}
 use Rattle.std.specs.List.{AllByRecursion}
 use Rattle.std.proofs.lemmas.List.{length-map, take_all}
 use Rattle.std.proofs.lemmas.List.Elements.{All-filter}
-use Rattle.std.proofs.lemmas.List.Sums.{length-filter, count_by-le-length}
 use Rattle.std.proofs.lemmas.List.FromFn.{length-range_with_len, get_or-range_with_len, length-map-range_with_len, get_or-map-range_with_len}
 use Rattle.value_order.specs.declared.order.Order.{Order}
 use Rattle.graph_core.specs.declared.job.Job.{Job}
@@ -11,20 +10,18 @@ use Rattle.graph_core.specs.Graphs.{count_of, IsJob}
 use Rattle.graph_core.specs.Parts.{FragmentLists}
 use Rattle.graph_core.specs.Queries.{equations_of}
 use Rattle.graph_core.specs.Fragments.{numbers_below, owned_of, mirrors_of, fragment_of, fragments_of}
+use Rattle.pie_core.proofs.Starting.{few-pass}
 use Rattle.token_cut.specs.Shapes.{PartStarts, IsPartShape, IsShape}
 use Rattle.coordinator.specs.Shapes.{starts_in, shape_of}
 
 pub numbers_inside : (n : ℕ) → All (λ v. v < n) (numbers_below n)
 numbers_inside n k d h = let l = length-range_with_len 0 n in let at = get_or-range_with_len 0 n k d (omega (arith, h, l)) in omega (arith, at, h, l)
 
-few_pass : (test : ℕ → Bool) (n : ℕ) → length (filter test (numbers_below n)) ≤ n
-few_pass test n = omega (arith, length-filter test (numbers_below n), count_by-le-length test (numbers_below n), length-range_with_len 0 n)
-
 few_owned : (job : Job) (i : ℕ) → length (owned_of job i) ≤ count_of job.graph
-few_owned job i = few_pass _ (count_of job.graph)
+few_owned job i = few-pass _ (count_of job.graph)
 
 few_mirrors : (job : Job) (i : ℕ) → length (mirrors_of job i) ≤ count_of job.graph
-few_mirrors job i = few_pass _ (count_of job.graph)
+few_mirrors job i = few-pass _ (count_of job.graph)
 
 -- ---- one fragment of a list of them
 

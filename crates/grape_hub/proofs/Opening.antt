@@ -1,10 +1,9 @@
 -- The sizes of a job's fragments, and the mail of a snapshot as posts.
-use Rattle.std.proofs.Common.{◌≡◌, ℕ, ◌+◌, ◌≤◌, Bool, true, false, not, ◌||◌, ◌==◌, if◌then◌else◌, refl, sym, ◌∙◌, ap, subst, arith, List, [], ◌∷◌, ◌++◌, length, map, filter, slice_index_or, All}
+use Rattle.std.proofs.Common.{◌≡◌, ℕ, ◌+◌, ◌≤◌, Bool, true, false, not, ◌||◌, ◌==◌, if◌then◌else◌, refl, sym, ◌∙◌, ap, subst, arith, List, [], ◌∷◌, ◌++◌, length, map, slice_index_or, All}
 use Rattle.std.specs.List.{AllZip, list_any}
 use Rattle.std.proofs.lemmas.Bool.{false≢true, true≢false}
 use Rattle.std.proofs.lemmas.List.{append-nil, length-map, length-append}
-use Rattle.std.proofs.lemmas.List.Sums.{length-filter, count_by-le-length}
-use Rattle.std.proofs.lemmas.List.FromFn.{length-range_with_len, length-map-range_with_len, get_or-map-range_with_len}
+use Rattle.std.proofs.lemmas.List.FromFn.{length-map-range_with_len, get_or-map-range_with_len}
 use Rattle.std.proofs.lemmas.Slice.Zip.{AllZip-long}
 use Rattle.value_order.specs.declared.TheConstants.{NOTHING}
 use Rattle.value_order.specs.declared.order.Order.{Order}
@@ -20,6 +19,7 @@ use Rattle.token_cut.specs.CutValues.{CutValues}
 use Rattle.token_cut.specs.Recording.{new_cut}
 use Rattle.token_cut.proofs.Sizing.{sizes_stay}
 use Rattle.pie_core.specs.Solutions.{starts_of}
+use Rattle.pie_core.proofs.Starting.{few-pass}
 use Rattle.base_machine.specs.Machine.{Post, system_of, is_empty, posts_from}
 use Rattle.base_machine.specs.Fitness.{IsInForm, IsPartInForm}
 use Rattle.base_machine.proofs.Giving.{below-length}
@@ -29,19 +29,12 @@ use Rattle.grape_hub.specs.Openings.{IsPartFor, HasFewPlaces, IsEmptyCut, with_s
 
 -- ---- the fragments of a job
 
-few_pass : (test : ℕ → Bool) (n : ℕ) → length (filter test (numbers_below n)) ≤ n
-few_pass test n =
-    let a = length-filter test (numbers_below n) in
-    let b = count_by-le-length test (numbers_below n) in
-    let c = length-range_with_len 0 n in
-    omega (arith, a, b, c)
-
 -- a fragment has at most as many owned places, and as many mirrors, as there are vertices
 few_places : (job : Job) → IsJob job → (i : ℕ) → HasFewPlaces (fragment_of job i)
 few_places job is_job i =
     let limit = is_job.graph.few_vertices in
-    let owned : length (owned_of job i) ≤ count_of job.graph = few_pass _ (count_of job.graph) in
-    let mirrors : length (mirrors_of job i) ≤ count_of job.graph = few_pass _ (count_of job.graph) in
+    let owned : length (owned_of job i) ≤ count_of job.graph = few-pass _ (count_of job.graph) in
+    let mirrors : length (mirrors_of job i) ≤ count_of job.graph = few-pass _ (count_of job.graph) in
     record { owned = omega (arith, owned, limit); mirrors = omega (arith, mirrors, limit) }
 
 pub all_few : (job : Job) → IsJob job → (parts : List FragmentLists) → parts ≡ fragments_of job → All HasFewPlaces parts

@@ -36,7 +36,8 @@ mirrors-inside job is_job part us small is_part same k d h =
     let there = stands_right (owned_of job i) vs k (slice_index vs k) (l, refl) in
     omega (arith, place_inside job i is_job small (length (owned_of job i) + k) there.0, there.1, ap (λ xs. slice_index_or xs k d) all, get_or_default vs k d 0 l)
 
-few-pass : (test : ℕ → Bool) (n : ℕ) → length (filter test (numbers_below n)) ≤ n
+-- of the numbers below n at most n pass a test
+pub few-pass : (test : ℕ → Bool) (n : ℕ) → length (filter test (numbers_below n)) ≤ n
 few-pass test n = omega (arith, length-filter test (numbers_below n), count_by-le-length test (numbers_below n), length-range_with_len 0 n)
 
 -- a fragment of a job has no more places than two for each vertex
