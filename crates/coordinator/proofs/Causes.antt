@@ -1,22 +1,22 @@
 -- Why a run was stopped, and what the coordinator's note says of it.
-use Rattle.std.proofs.Common.{◌≡◌, ℕ, ◌+◌, ◌<◌, Bool, true, false, not, ◌&&◌, ◌==◌, nat_lt, if◌then◌else◌, refl, sym, ◌∙◌, ap, arith, List, [], ◌∷◌, ◌++◌, length, reverse, drop}
-use Rattle.std.proofs.Math.Seq.{drop-append_seam}
+use Rattle.std.proofs.Common.{◌≡◌, ℕ, ◌+◌, ◌<◌, Bool, true, false, not, ◌&&◌, ◌==◌, nat_lt, if◌then◌else◌, refl, sym, ◌∙◌, ap, arith, List, [], ◌∷◌, ◌++◌, length, reverse}
 use Rattle.std.proofs.lemmas.Bool.{false≢true, eq-eqb, eqb-true, ltb-true, false_from_ne_true}
 use Rattle.std.proofs.lemmas.List.{reverse-append}
 use Rattle.graph_core.specs.declared.job.Job.{Job}
 use Rattle.grape_event.specs.declared.event.Event.{Event}
-use Rattle.grape_event.specs.declared.event.Event.TheVariants.{Take, Give, Stretch, Hold, Flag, Ask, Ack, Nack, Begin, Mark, Seal, Kept, End, Stop}
+use Rattle.grape_event.specs.declared.event.Event.TheVariants.{Seal, Stop}
 use Rattle.grape_event.specs.declared.event.StopCause.{StopCause}
 use Rattle.grape_event.specs.declared.event.StopCause.TheVariants.{Disk, Memory}
-use Rattle.legal_journal.specs.Choices.{is_of_lane, is_duty}
+use Rattle.legal_journal.specs.Choices.{is_of_lane, is_duty, sealed_epochs}
 use Rattle.legal_journal.proofs.Choosing.{lane_choices_are_exact}
 use Rattle.grape_hub.specs.HubValues.{HubValues}
 use Rattle.grape_hub.specs.States.{machine, state_of}
 use Rattle.grape_hub.specs.declared.work.Next.TheVariants.{Did}
 use Rattle.grape_hub.specs.Calls.{Appended, Unchanged, Chooses, is_seal}
 use Rattle.grape_hub.specs.LanedHub.{LanedHub}
-use Rattle.grape_hub.specs.Notes.{listed, numbers_of_job, numbers_of_snapshot, sealed_epochs, is_stopped_by_disk, lane_part, coordinator_part, own_part, own_in, note_of}
+use Rattle.grape_hub.specs.Notes.{is_stopped_by_disk, lane_part, coordinator_part, own_in, note_of}
 use Rattle.grape_hub.proofs.Hubs.{past_of}
+use Rattle.grape_hub.proofs.NoteLaws.{own_is}
 use Rattle.coordinator.specs.Runs.{EndsBy}
 use Rattle.coordinator.specs.Turns.{HasNoDiskStop}
 
@@ -62,12 +62,6 @@ memory_is_cause cause journal ends disk = other cause (sym (stopped_last ends.0 
     other Memory h = refl
 
 -- ---- the coordinator's note
-
-behind_is : (ground own : List ℕ) → drop (1 + length ground) (listed ground ++ own) ≡ own
-behind_is ground own = let n : 1 + length ground ≡ length (listed ground) = omega arith in ap (λ (n : ℕ). drop n (listed ground ++ own)) n ∙ drop-append_seam (listed ground) own
-
-own_is : (x : LanedHub) (k : ℕ) → own_in (note_of x k) ≡ own_part x k
-own_is x k = behind_is (numbers_of_job x.hub.job ++ numbers_of_snapshot x.hub.start) (own_part x k)
 
 not_below : (k n : ℕ) → (k < n → ⊥) → nat_lt k n ≡ false
 not_below k n other = false_from_ne_true (nat_lt k n) (λ t. other (ltb-true k n t))

@@ -37,7 +37,7 @@ behind_is ground own = let n : 1 + length ground ≡ length (listed ground) = om
 pub notes_begin : NotesBegin
 notes_begin x k = front_is (numbers_of_job x.hub.job ++ numbers_of_snapshot x.hub.start) (own_part x k)
 
-own_is : (x : LanedHub) (k : ℕ) → own_in (note_of x k) ≡ own_part x k
+pub own_is : (x : LanedHub) (k : ℕ) → own_in (note_of x k) ≡ own_part x k
 own_is x k = behind_is (numbers_of_job x.hub.job ++ numbers_of_snapshot x.hub.start) (own_part x k)
 
 lane_own : (x : LanedHub) (k : ℕ) → k < x.hub.job.settings.lanes → own_in (note_of x k) ≡ lane_part x k

@@ -19,7 +19,8 @@ use Rattle.grape_hub.specs.States.{machine, state_of, sealed_epoch, IsHub}
 use Rattle.grape_hub.specs.Calls.{Appended, Unchanged, Begins}
 use Rattle.grape_hub.specs.declared.lane_record.LaneRecord.{LaneRecord}
 use Rattle.grape_hub.specs.LanedHub.{LanedHub, lane_at, no_record, new_lanes}
-use Rattle.grape_hub.specs.Notes.{ground_of, or_zero, listed, numbers_of_record, numbers_of_work, numbers_out, lane_part, sealed_epochs, is_stopped_by_disk, numbers_if_sealed, coordinator_part, note_of, OthersStay}
+use Rattle.legal_journal.specs.Choices.{sealed_epochs}
+use Rattle.grape_hub.specs.Notes.{ground_of, or_zero, listed, numbers_of_record, numbers_of_work, numbers_out, lane_part, is_stopped_by_disk, numbers_if_sealed, coordinator_part, note_of, OthersStay}
 use Rattle.grape_hub.proofs.Hubs.{state_grown, ended_is}
 use Rattle.grape_hub.proofs.Ready.{with_event}
 use Rattle.grape_hub.proofs.Staying.{touches, Stays, stays, hand_same, not_taken, other_out, giver_out, taker_out, by_lane, same_lane, from_not}

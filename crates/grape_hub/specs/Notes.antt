@@ -14,13 +14,14 @@ use Rattle.graph_core.specs.declared.settings.Settings.{Settings}
 use Rattle.graph_core.specs.declared.job.Job.{Job}
 use Rattle.graph_core.specs.Fragments.{numbers_below}
 use Rattle.grape_event.specs.declared.event.Event.{Event}
-use Rattle.grape_event.specs.declared.event.Event.TheVariants.{Seal, Stop}
+use Rattle.grape_event.specs.declared.event.Event.TheVariants.{Stop}
 use Rattle.grape_event.specs.declared.event.StopCause.TheVariants.{Disk}
 use Rattle.token_cut.specs.declared.phase.Phase.{Phase}
 use Rattle.token_cut.specs.declared.phase.Phase.TheVariants as phase
 use Rattle.token_cut.specs.Parts.{PartValues, SnapshotParts}
 use Rattle.base_machine.specs.Machine.{worker_at, hand_of}
 use Rattle.legal_journal.specs.Legal.{State, worker_count, is_out_with}
+use Rattle.legal_journal.specs.Choices.{sealed_epochs}
 use Rattle.legal_journal.specs.Cuts.{sealed_snapshot}
 use Rattle.grape_hub.specs.HubValues.{HubValues}
 use Rattle.grape_hub.specs.States.{machine, state_of, take_place, sealed_epoch}
@@ -107,12 +108,6 @@ abbrev pub lane_part : LanedHub → ℕ → List ℕ
 lane_part x k = numbers_of_record (lane_at x k) ++ (if (lane_at x k).out then numbers_out (state_of x.hub) k else [])
 
 -- ---- the coordinator's own
-
--- the epochs that were sealed, in order
-abbrev pub sealed_epochs : List Event → List ℕ
-sealed_epochs [] = []
-sealed_epochs (Seal e ∷ journal) = e ∷ sealed_epochs journal
-sealed_epochs (_ ∷ journal) = sealed_epochs journal
 
 -- the last event is a Stop for want of the disk; the journal stands newest first
 abbrev pub is_stopped_by_disk : List Event → Bool

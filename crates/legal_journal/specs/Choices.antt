@@ -64,7 +64,7 @@ duty_choice sys s = first_admitted sys s (duties s)
 
 -- ---- a run
 
--- the epochs that were sealed
+-- the epochs that were sealed, in the order of the list
 abbrev pub sealed_epochs : List Event → List ℕ
 sealed_epochs [] = []
 sealed_epochs (Seal e ∷ past) = e ∷ sealed_epochs past

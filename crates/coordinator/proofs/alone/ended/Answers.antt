@@ -1,4 +1,4 @@
-use Rattle.std.proofs.Common.{List, ◌∙◌, ap, subst, reverse}
+use Rattle.std.proofs.Common.{◌∙◌, ap, subst, reverse}
 use Rattle.grape_event.specs.declared.event.Event.{Event}
 use Rattle.grape_event.specs.declared.event.Event.TheVariants.{End}
 use Rattle.grape_event.specs.JournalList.{JournalList}
