@@ -33,7 +33,7 @@ pub record IsStoryOf (job : Job) (story : Story) : Type 0 where
   pub legal : IsLegal (system_of job) story.start story.journal.events
   pub kept : story.kept.items ≡ []
 
--- One for each fragment, in order, with its sizes, and with its worker's values after the journal.
+-- One for each fragment, in order, with a value for each place and one before for each owned place, and with its worker's values after the journal.
 pub record AreLocalsOf (job : Job) (fragments : List FragmentLists) (story : Story) (locals : List LocalValues) : Type 0 where
   pub places : FitParts fragments locals
   pub owned : AllZip (λ part local. length local.before ≡ length part.owned) fragments locals

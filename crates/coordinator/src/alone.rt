@@ -23,10 +23,11 @@ use pie_flood::{Labels, Reach};
 use std::alloc::Global;
 use token_cut::{Shape, Snapshot};
 
-/// Runs a job on the caller's thread, which serves all its workers as lane 0. It repeats: one duty of the coordinator, and
-/// where there is none the lane's next event, with its evaluation and its Give. Where memory runs out before the run has
-/// begun, it answers `NoMemory`, and after that it stops with the cause `Memory`. The fragments and the shape are those
-/// of the job, which asks for no snapshots. A worker past the last pacer has none, which adds no turns to its Stretches.
+/// Runs a job on the caller's thread, which serves all its workers as lane 0. It repeats: one duty of the coordinator,
+/// and where there is none the lane's next event, with its evaluation and its Give. Where memory runs out before the
+/// run has begun, it answers `NoMemory`, and after that it stops with the cause `Memory`. The fragments and the shape
+/// are those of the job, which asks for no snapshots. A worker past the last pacer has none, which adds no turns to its
+/// Stretches.
 pub fn run_alone<Q: Pacer>(
     alloc: Global,
     job: &Job,

@@ -30,9 +30,9 @@ use std::sync::Wait;
 use std::thread::{Threads, for_each_mut, join};
 use token_cut::{Shape, Snapshot};
 
-/// Runs a job on all its lanes, which share the hub under the noted lock, a thread each. The caller's thread is the
-/// coordinator: it takes the duties, and where there is none a turn of lane 0, so that the run ends even where no other
-/// thread can be made. Each lane passes the gate before it evaluates. All memory but the journal's is taken before the run
+/// Runs a job on all its lanes, which share the hub under the noted lock. The caller's thread takes the coordinator's
+/// duties, and where there is none a turn of lane 0; each other lane has a thread of its own where one can be made, and
+/// else comes last. Each lane passes the gate before it evaluates. All memory but the journal's is taken before the run
 /// begins: where there is none it answers `NoMemory`, and where memory runs out later the run stops with the cause
 /// `Memory`. The conditions are those of [`run_alone`](crate::run_alone), and so is what it tells.
 pub fn run_lanes<R: Threads + Wait + Sync, Q: Pacer + Send, G: Gate + Sync>(
@@ -130,8 +130,8 @@ fn finish_alone<P: Pie, Q: Pacer>(
     ended(alloc, job, fragments, hub)
 }
 
-/// Shares a hub that has done nothing yet among its lanes and the coordinator, and gives it back when all have left it. No
-/// lane has a Work out then. `None` comes where there was no memory to begin.
+/// Shares a hub that has done nothing yet among its lanes and the coordinator, and gives it back when all have left it.
+/// No lane has a Work out then. `None` comes where there was no memory to begin.
 fn share<R: Threads + Wait + Sync, P: Pie + Send + Sync, Q: Pacer + Send, G: Gate + Sync>(
     rt: &R,
     alloc: Global,
@@ -219,8 +219,8 @@ fn run_seats<R: Threads + Wait + Sync, P: Pie + Send + Sync, Q: Pacer + Send, G:
     seats
 }
 
-/// The coordinator with lane 0 in this thread, beside the other lanes in threads of their own. Where none can be made the
-/// other lanes come once the coordinator has left.
+/// The coordinator with lane 0 in this thread, beside the other lanes in threads of their own. Where none can be made
+/// the other lanes come once the coordinator has left.
 fn beside<R: Threads + Wait + Sync, P: Pie + Send + Sync, Q: Pacer + Send, G: Gate + Sync>(
     rt: &R,
     alloc: Global,
@@ -322,7 +322,7 @@ fn run_slot<R: Wait, P: Pie, Q: Pacer, G: Gate>(
     *slot = Some(seat);
 }
 
-/// Takes the duties, and where there is none the turns of lane 0, until the journal has ended. Says how it did.
+/// Takes the duties, and where there is none the turns of lane 0, until a duty or a turn answers Ended or NoMemory.
 fn coordinate<R: Wait, P: Pie, Q: Pacer, G: Gate>(
     rt: &R,
     alloc: Global,

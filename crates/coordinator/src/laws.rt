@@ -8,8 +8,8 @@ pub fn shapes_begin_runs()
     ensures { ShapesBeginRuns }
 {}
 
-/// A snapshot may stand in a slot of the state file of a job exactly where its epoch is one of that slot, and it is in the
-/// form in which a run of the job may begin.
+/// A snapshot may stand in a slot of the state file of a job exactly where its epoch is one of that slot, and it is in
+/// the form in which a run of the job may begin.
 pub fn forms_agree()
     ensures { FormsAgree }
 {}

@@ -45,8 +45,8 @@ pub(crate) fn take_turn<P: Pie, Q: Pacer>(
     }
 }
 
-/// A duty of the coordinator in a run without snapshots, and whether the run goes on after it. `None` comes exactly where
-/// there is none before the journal's end.
+/// A duty of the coordinator in a run without snapshots, and whether the run goes on after it. `None` comes exactly
+/// where there is none before the journal's end.
 fn do_duty<P: Pie, Q: Pacer>(hub: &mut Hub<P, Q>, into: &mut Snapshot) -> Option<bool>
     requires hub { IsLanedHub hub.old }
     requires calm { IsCalm hub.old.hub }

@@ -126,6 +126,7 @@ records_tell x k hub l =
       ap (λ (o : List ℕ). slice_index_or o 0 0) own
           ∙ calls_first c r (behind x k) (no_calls r.calls) (λ none. ap (λ (b : Bool). if b then numbers_out (state_of x.hub) k else []) (out_after_call x k hub.1 none)),
       λ some. ap (λ (o : List ℕ). slice_index_or o 1 0) own ∙ ap (λ (b : Bool). slice_index_or (with_record b r (behind x k)) 1 0) (lt-ltb 0 r.calls some),
+      λ some. ap (λ (o : List ℕ). slice_index_or o 2 0) own ∙ ap (λ (b : Bool). slice_index_or (with_record b r (behind x k)) 2 0) (lt-ltb 0 r.calls some),
     )
 
 -- ---- where a Work is out, and where none is

@@ -107,7 +107,7 @@ StretchesWorker old worker (Took work) new = ⊥
 StretchesWorker old worker Idle new = ⊥
 StretchesWorker old worker Ended new = ⊥
 
--- the events that change no worker, and no recording
+-- the events that change no table but the probe
 abbrev pub IsNote : Event → Type 0
 IsNote (Hold i) = ⊤
 IsNote (Flag i) = ⊤

@@ -49,7 +49,7 @@ buffer_of sys s i =
       tagged_batches = length (waiting_in_class true s i);
     }
 
--- the sizes of a fragment: a value for each place, and for each owned one a value before and its counters
+-- the sizes of a fragment: for each owned place a value before and its counters, and in the hand a value for each mirror
 pub record HasSizes (piece : Piece) (counters : ℕ) (before counts : List ℕ) (hand : List ℕ) : Type 0 where
   pub owned : length before ≡ length piece.owned
   pub room : length counts ≡ length piece.owned * counters

@@ -1,4 +1,4 @@
--- The kinds of events that a lane looks for, as tests of a desk, of the probe, and of what the hub saw over all desks.
+-- The kinds of events that a lane looks for, as tests of a desk, of the probe, of the recording, and of what the hub saw over all desks.
 use Rattle.std.specs.Prelude.{◌≡◌, ℕ, ◌-◌, ◌^◌, ◌≤◌, min, Bool, true, false, not, ◌&&◌, ◌||◌, nat_lt, nat_le, List, [], ◌∷◌, ◌++◌, Option, Some, None, length, slice_get, if◌then◌else◌}
 use Rattle.std.specs.List.{range_with_len}
 use Rattle.std.specs.Option.{is_some}

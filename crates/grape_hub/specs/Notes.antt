@@ -162,6 +162,10 @@ calls_in note = slice_index_or (own_in note) 0 0
 abbrev pub answer_in : List ℕ → ℕ
 answer_in note = slice_index_or (own_in note) 1 0
 
+-- the journal's length at the last answer
+abbrev pub length_in : List ℕ → ℕ
+length_in note = slice_index_or (own_in note) 2 0
+
 -- no Work stands in a lane's note
 abbrev pub HasNoWork : List ℕ → Type 0
 HasNoWork note = length (own_in note) ≤ 3

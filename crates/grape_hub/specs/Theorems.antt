@@ -28,7 +28,7 @@ use Rattle.grape_hub.specs.Calls.{Appended, IsWork, IsReady, MayGive}
 use Rattle.grape_hub.specs.States.{machine, state_of, workers_of, sealed_epoch, IsHub}
 use Rattle.grape_hub.specs.Choices.{MayChoose}
 use Rattle.grape_hub.specs.LanedHub.{LanedHub, lane_at, is_out_at, IsLanedHub}
-use Rattle.grape_hub.specs.Notes.{ground_of, ground_in, calls_in, answer_in, note_of, HasNoWork}
+use Rattle.grape_hub.specs.Notes.{ground_of, ground_in, calls_in, answer_in, length_in, note_of, HasNoWork}
 
 -- nobody is out
 abbrev pub IsCalm : HubValues → Type 0
@@ -159,6 +159,7 @@ abbrev pub RecordsTell : Type 0
 RecordsTell =
     (x : LanedHub) (k : ℕ) → IsLanedHub x → k < x.hub.job.settings.lanes →
     (calls_in (note_of x k) ≡ (lane_at x k).calls) × (1 ≤ (lane_at x k).calls → answer_in (note_of x k) ≡ (lane_at x k).answer)
+    × (1 ≤ (lane_at x k).calls → length_in (note_of x k) ≡ (lane_at x k).length)
 
 -- What a lane may give back to one hub it may give back to another that has the same note of it.
 abbrev pub WorksTell : Type 0

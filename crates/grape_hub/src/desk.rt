@@ -16,7 +16,7 @@ use token_cut::{CutState, Phase};
 /// Where the values of a worker are, and the hand that it takes its mail into.
 #[derive(Drop)]
 pub enum Seat {
-    /// With the hub: before the first Take where it is fresh, and else after a Give.
+    /// With the hub: as it started, or after a Give.
     Here {
         fresh: bool,
         local: Local,
@@ -62,7 +62,7 @@ impl Desk {
         }
     }
 
-    /// Whether the worker has taken nothing yet.
+    /// Whether the worker's values are here and it is fresh.
     pub fn is_fresh(&self) -> bool
         ensures { result ≡ is_fresh_at self.now }
     {
@@ -72,7 +72,7 @@ impl Desk {
         }
     }
 
-    /// Whether the worker has given, and taken nothing since.
+    /// Whether the worker's values are here and it isn't fresh.
     pub fn rests(&self) -> bool
         ensures { result ≡ rests_at self.now }
     {
@@ -116,8 +116,8 @@ impl Desk {
         self.buffer.begin_batch(sender.tagged);
     }
 
-    /// Hands out the values, with all mail that waits in the hand, to a lane whose Take stands at this place. Says first
-    /// whether the worker takes for the first time in this journal.
+    /// Hands out the values, with all mail that waits in the hand, to a lane whose Take stands at this place. Says
+    /// first whether the worker takes for the first time in this journal.
     pub fn take(&mut self, lane: u32, place: u64) -> (bool, Local, Hand)
         requires { HandFits self.old self.old.seat }
         ensures { TakesFrom self.old self.old.seat lane place result self.new }

@@ -37,7 +37,8 @@ use token_cut::{CutState, Snapshot};
 const MOST_EXTRA: u32 = 64;
 
 /// What a hub runs by: the workers with their values and mail, the probe, the recording, and the journal. It knows of a
-/// lane's Work what the journal says. The start and the journal determine all that it holds but its pacers.
+/// lane's Work what the journal says. The job, the start and the journal determine the values, mail, rounds, delays,
+/// probe and recording.
 #[derive(Drop)]
 pub struct Engine<P: Pie, Q: Pacer> {
     program: P,
@@ -74,10 +75,10 @@ impl<P: Pie, Q: Pacer> Model for Engine<P, Q> {
 }
 
 impl<P: Pie, Q: Pacer> Engine<P, Q> {
-    /// A hub at its start: each worker is as its part of the start has it, and the journal is empty. The program is that of
-    /// the job's query, the fragments are the job's, and the start is in the form of the job's snapshots, or fresh. A
-    /// worker past the last pacer has none, which adds no turns. The hub keeps a copy of the job and of the fragments'
-    /// routes. After this only the journal takes memory.
+    /// A hub at its start: each worker is as its part of the start has it, and the journal is empty. The program is
+    /// that of the job's query, the fragments are the job's, and the start is in the form of the job's snapshots, or
+    /// fresh. A worker past the last pacer has none, which adds no turns. The hub keeps a copy of the job and of the
+    /// fragments' routes. After this only the journal takes memory.
     pub fn open(
         alloc: Global,
         program: P,
@@ -117,12 +118,13 @@ impl<P: Pie, Q: Pacer> Engine<P, Q> {
         })
     }
 
-    /// Appends the first event in the order of choice that is admitted and concerns this lane: a Mark in an open recording,
-    /// or else a Take of a worker that may go on, a Stretch, an answer to the probe, a Flag or a Hold, in turn from the
-    /// worker after that of the last Take. While a recording is open no unmarked worker takes mail of a marked one, and
-    /// while a snapshot is due nobody takes. `Idle` comes exactly where none is admitted and the journal hasn't ended, and
-    /// `Ended` where it has. The lane has no Work out. Room for the event, for a Give of each worker that is out, for the
-    /// Kept of a sealed snapshot and for a Stop is made first; then the worker's pacer is asked, once for each Stretch.
+    /// Appends the first event in the order of choice that is admitted and concerns this lane: a Mark in an open
+    /// recording, or else a Take of a worker that may go on, a Stretch, an answer to the probe, a Flag or a Hold, in
+    /// turn from the worker after that of the last Take. While a recording is open an unmarked worker for which a batch
+    /// with its token waits doesn't take, and while a snapshot is due nobody takes. `Idle` comes exactly where none is
+    /// admitted and the journal hasn't ended, and `Ended` where it has. The lane has no Work out. Room for the event,
+    /// for a Give of each worker that is out, for the Kept of a sealed snapshot and for a Stop is made first; then the
+    /// worker's pacer is asked, once for each Stretch.
     pub fn next(&mut self, lane: u32) -> Next
         requires lane { lane < self.old.job.settings.lanes }
         requires free { has_work_out (state_of self.old) lane ≡ false }
@@ -147,10 +149,11 @@ impl<P: Pie, Q: Pacer> Engine<P, Q> {
         }
     }
 
-    /// Appends the first admitted event of Seal, End, Begin and Ask. `Sealed` comes where it is a Seal, and the snapshot of
-    /// that epoch is then in `into`. `Nothing` comes exactly where none is admitted and the journal hasn't ended, and
-    /// `Ended` where it has. Nothing is sealed and not kept, and `into` has the sizes of the job's snapshots. Room for the
-    /// event, for a Give of each worker that is out, for a Kept after a Seal and for a Stop is made first.
+    /// Appends the first admitted event of Seal, End, Begin and Ask. `Sealed` comes where it is a Seal, and the
+    /// snapshot of that epoch is then in `into`. `Nothing` comes exactly where none is admitted and the journal hasn't
+    /// ended, and `Ended` where it has. Nothing is sealed and not kept, and `into` has the sizes of the job's
+    /// snapshots. Room for the event, for a Give of each worker that is out, for a Kept after a Seal and for a Stop is
+    /// made first.
     pub fn duty(&mut self, into: &mut Snapshot) -> Duty
         requires kept { sealed_epoch (state_of self.old).past ≡ None }
         requires sizes { HasSizesOf self.old into.old }
@@ -362,7 +365,7 @@ impl<P: Pie, Q: Pacer> Engine<P, Q> {
         Next::Did(event)
     }
 
-    /// Appends an event that only the probe hears of, for a lane.
+    /// Appends an event that changes no table but the probe, for a lane.
     fn did(&mut self, event: Event) -> Next
         requires note { IsNote event }
         requires admitted { is_admitted (machine self.old) (state_of self.old) event ≡ true }
@@ -375,7 +378,7 @@ impl<P: Pie, Q: Pacer> Engine<P, Q> {
         }
     }
 
-    /// Appends an event that changes no worker, and that only the probe hears of.
+    /// Appends an event that changes no table but the probe.
     fn note(&mut self, event: Event) -> Result<(), NoMemory>
         requires note { IsNote event }
         requires admitted { is_admitted (machine self.old) (state_of self.old) event ≡ true }
@@ -390,10 +393,10 @@ impl<P: Pie, Q: Pacer> Engine<P, Q> {
         Ok(())
     }
 
-    /// Appends the Give of the Work that the lane has out, and sends each owned value that became lower along its routes.
-    /// The values are the local solution of those at the Take lowered by the hand. While a recording is open the batches of
-    /// a marked worker carry its token, and those of another lower what is recorded of marked workers. Where the journal
-    /// has ended nothing is appended, and the values are given up. Takes no memory.
+    /// Appends the Give of the Work that the lane has out, and sends each owned value that became lower along its
+    /// routes. The values are the local solution of those at the Take lowered by the hand. While a recording is open
+    /// the batches of a marked worker carry its token, and those of another lower what is recorded of marked workers.
+    /// Where the journal has ended nothing is appended, and the values are given up. Takes no memory.
     pub fn give(&mut self, lane: u32, work: Work)
         requires { MayGive self.old lane work }
         ensures given { AppendedUnlessEnded self.old (Give work.worker) self.new }
@@ -448,8 +451,8 @@ impl<P: Pie, Q: Pacer> Engine<P, Q> {
         values_at(&self.start, worker)
     }
 
-    /// A Local of each worker, in order, with its sizes, the journal, and the start. The journal has ended. A Local has the
-    /// worker's values; that of a worker that is out is among those that were given up.
+    /// A Local of each worker, in order, with its sizes, the journal, and the start. The journal has ended. A Local has
+    /// the worker's values; that of a worker that is out is among those that were given up.
     pub fn finish(self, given_up: Vec<Option<Local>>) -> (Vec<Local>, Journal, Snapshot)
         requires ended { has_ended (reverse self.journal.events) ≡ true }
         requires given { AreGivenUp self given_up.items }

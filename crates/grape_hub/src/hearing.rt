@@ -5,7 +5,7 @@ ghost use Rattle.grape_hub.specs.Hearing.{MayHear};
 use grape_event::Event;
 use stop_probe::Probe;
 
-/// Tells the probe of an event. It hears of Takes, flags and answers.
+/// Tells the probe of an event. It hears of Takes, Flags, Asks and answers.
 pub fn hear(probe: &mut Probe, event: Event)
     requires { MayHear event probe.old }
     ensures { probe.new ≡ after_event event probe.old }

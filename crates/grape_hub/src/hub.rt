@@ -30,13 +30,14 @@ use token_cut::Snapshot;
 /// A worker takes all mail that waits for it, a lane evaluates that, and gives the values back; each owned value that
 /// became lower is sent to the workers that mirror its vertex. The policy says when a worker may go on, a delay lets
 /// mail gather before, and a pacer of its own may add to that. Once all workers rest, a probe asks each of them whether
-/// the run may end. Every so many Takes a snapshot is due: a recording opens, each worker is marked in it, and once all
-/// are it is sealed. The start and the journal determine all that the hub holds but its pacers. Contracts see the job,
-/// the start, the journal, the sizes that the program asks for, and for each lane what [`Hub::next`] answered it last
-/// and whether it has a Work out.
+/// the run may end. Where the job asks for snapshots, one is due after every so many Takes: a recording opens, each
+/// worker is marked in it, and once all are it is sealed. The job, the start and the journal determine the values,
+/// mail, rounds, delays, probe and recording. Contracts see these three, the sizes that the program asks for, and for
+/// each lane its record (how often [`Hub::next`] was called, its last answer, the journal's length then) and whether it
+/// has a Work out.
 ///
-/// Each lane, and the coordinator, has a note in the hub: the job and the start, and then what is its own. A call of one
-/// lane leaves the notes of all others.
+/// Each lane, and the coordinator, has a note in the hub: the job and the start, and then what is its own. A call of
+/// one lane leaves the notes of all others.
 #[derive(Drop)]
 pub struct Hub<P: Pie, Q: Pacer> {
     engine: Engine<P, Q>,
@@ -63,10 +64,10 @@ impl<P: Pie, Q: Pacer> Noted for Hub<P, Q> {
 }
 
 impl<P: Pie, Q: Pacer> Hub<P, Q> {
-    /// A hub at its start: each worker is as its part of the start has it, and the journal is empty. The program is that of
-    /// the job's query, the fragments are the job's, and the start is in the form of the job's snapshots, or fresh. A
-    /// worker past the last pacer has none, which adds no turns. The hub keeps a copy of the job and of the fragments'
-    /// routes. After this only the journal takes memory. All notes are the ground.
+    /// A hub at its start: each worker is as its part of the start has it, and the journal is empty. The program is
+    /// that of the job's query, the fragments are the job's, and the start is in the form of the job's snapshots, or
+    /// fresh. A worker past the last pacer has none, which adds no turns. The hub keeps a copy of the job and of the
+    /// fragments' routes. After this only the journal takes memory. All notes are the ground.
     pub fn open(
         alloc: Global,
         program: P,
@@ -97,13 +98,14 @@ impl<P: Pie, Q: Pacer> Hub<P, Q> {
         })
     }
 
-    /// Appends the first event in the order of choice that is admitted and concerns this lane: a Mark in an open recording,
-    /// or else a Take of a worker that may go on, a Stretch, an answer to the probe, a Flag or a Hold, in turn from the
-    /// worker after that of the last Take. While a recording is open no unmarked worker takes mail of a marked one, and
-    /// while a snapshot is due nobody takes. `Idle` comes exactly where none is admitted and the journal hasn't ended, and
-    /// `Ended` where it has. The lane has no Work out. Room for the event, for a Give of each worker that is out, for the
-    /// Kept of a sealed snapshot and for a Stop is made first; then the worker's pacer is asked, once for each Stretch.
-    /// Each answer is recorded for the lane; NoMemory changes nothing else.
+    /// Appends the first event in the order of choice that is admitted and concerns this lane: a Mark in an open
+    /// recording, or else a Take of a worker that may go on, a Stretch, an answer to the probe, a Flag or a Hold, in
+    /// turn from the worker after that of the last Take. While a recording is open an unmarked worker for which a batch
+    /// with its token waits doesn't take, and while a snapshot is due nobody takes. `Idle` comes exactly where none is
+    /// admitted and the journal hasn't ended, and `Ended` where it has. The lane has no Work out. Room for the event,
+    /// for a Give of each worker that is out, for the Kept of a sealed snapshot and for a Stop is made first; then the
+    /// worker's pacer is asked, once for each Stretch. Each answer is recorded for the lane; NoMemory changes nothing
+    /// else.
     pub fn next(&mut self, lane: u32) -> Next
         requires lane { lane < self.old.hub.job.settings.lanes }
         requires free { is_out_at self.old lane ≡ false }
@@ -123,10 +125,11 @@ impl<P: Pie, Q: Pacer> Hub<P, Q> {
         answer
     }
 
-    /// Appends the first admitted event of Seal, End, Begin and Ask. `Sealed` comes where it is a Seal, and the snapshot of
-    /// that epoch is then in `into`. `Nothing` comes exactly where none is admitted and the journal hasn't ended, and
-    /// `Ended` where it has. Nothing is sealed and not kept, and `into` has the sizes of the job's snapshots. Room for the
-    /// event, for a Give of each worker that is out, for a Kept after a Seal and for a Stop is made first.
+    /// Appends the first admitted event of Seal, End, Begin and Ask. `Sealed` comes where it is a Seal, and the
+    /// snapshot of that epoch is then in `into`. `Nothing` comes exactly where none is admitted and the journal hasn't
+    /// ended, and `Ended` where it has. Nothing is sealed and not kept, and `into` has the sizes of the job's
+    /// snapshots. Room for the event, for a Give of each worker that is out, for a Kept after a Seal and for a Stop is
+    /// made first.
     pub fn duty(&mut self, into: &mut Snapshot) -> Duty
         requires kept { sealed_epoch (state_of self.old.hub).past ≡ None }
         requires sizes { HasSizesOf self.old.hub into.old }
@@ -150,8 +153,8 @@ impl<P: Pie, Q: Pacer> Hub<P, Q> {
         self.engine.kept(epoch);
     }
 
-    /// Appends a Stop, where the journal hasn't ended. Takes no memory. Only that of the cause `Disk` is in a note, that of
-    /// the coordinator.
+    /// Appends a Stop, where the journal hasn't ended. Takes no memory. Only that of the cause `Disk` is in a note,
+    /// that of the coordinator.
     pub fn stop(&mut self, cause: StopCause)
         ensures stopped { AppendedUnlessEnded self.old.hub (Stop cause) self.new.hub }
         ensures lanes { self.new.lanes ≡ self.old.lanes }
@@ -162,10 +165,11 @@ impl<P: Pie, Q: Pacer> Hub<P, Q> {
         self.engine.stop(cause);
     }
 
-    /// Appends the Give of the Work that the lane has out, and sends each owned value that became lower along its routes.
-    /// The values are the local solution of those at the Take lowered by the hand. While a recording is open the batches of
-    /// a marked worker carry its token, and those of another lower what is recorded of marked workers. Where the journal
-    /// has ended nothing is appended, and the values are given up. The lane has no Work out then. Takes no memory.
+    /// Appends the Give of the Work that the lane has out, and sends each owned value that became lower along its
+    /// routes. The values are the local solution of those at the Take lowered by the hand. While a recording is open
+    /// the batches of a marked worker carry its token, and those of another lower what is recorded of marked workers.
+    /// Where the journal has ended nothing is appended, and the values are given up. The lane has no Work out then.
+    /// Takes no memory.
     pub fn give(&mut self, lane: u32, work: Work)
         requires out { is_out_at self.old lane ≡ true }
         requires work { MayGive self.old.hub lane work }
@@ -200,8 +204,8 @@ impl<P: Pie, Q: Pacer> Hub<P, Q> {
         self.engine.stands();
     }
 
-    /// The values of each worker, in order, with its sizes, the journal, and the start. The journal has ended, and no lane has
-    /// a Work out. Where a Work was given after the end, its worker's Local has the values of the start.
+    /// The values of each worker, in order, with its sizes, the journal, and the start. The journal has ended, and no
+    /// lane has a Work out. Where a Work was given after the end, its worker's Local has the values of the start.
     pub fn finish(self) -> (Vec<Local>, Journal, Snapshot)
         requires ended { has_ended (reverse self.hub.journal.events) ≡ true }
         requires free { (k : ℕ) → k < self.hub.job.settings.lanes → is_out_at self k ≡ false }

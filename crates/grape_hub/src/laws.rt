@@ -10,13 +10,14 @@ pub fn works_go_round()
     ensures given { EvaluatedMayBeGiven }
 {}
 
-/// An event leaves the Works that other lanes have out, and lanes that are free; the Give of its Work frees a lane.
+/// An event leaves the Works that other lanes have out, and a free lane free but at its own Take; the Give of its Work
+/// frees a lane.
 pub fn works_stay()
     ensures work { WorksStay }
     ensures lane { LanesStay }
 {}
 
-/// Where nobody is out every lane is free, and one lane's turns leave it so.
+/// Where nobody is out every lane is free; a hub begins so, and one lane's turns leave it so.
 pub fn turns_are_calm()
     ensures free { CalmIsFree }
     ensures beginning { CalmAtBeginning }
@@ -24,12 +25,14 @@ pub fn turns_are_calm()
     ensures other { CalmAfterOther }
 {}
 
-/// Without snapshots: where nobody is out and a lane has nothing to do, every worker rests and no mail waits.
+/// Without snapshots, before the end: where nobody is out and a lane has nothing to do, every worker rests and no mail
+/// waits.
 pub fn idle_is_quiet()
     ensures { IdleIsQuiet }
 {}
 
-/// Where nobody is out, what is sealed is kept, and the coordinator has no duty, any one lane has something to do.
+/// Before the end: where nobody is out, what is sealed is kept, and the coordinator has no duty, any one lane has
+/// something to do.
 pub fn one_lane_goes_on()
     ensures { OneLaneGoesOn }
 {}
@@ -55,8 +58,8 @@ pub fn hubs_run()
     ensures { HubsRun }
 {}
 
-/// Every program that has the laws of `Pie` is confluent on every job that it is for, whatever the fragments, the start and
-/// the order of events.
+/// Every program that has the laws of `Pie` is confluent on every job that it is for, whatever the fragments, the fit
+/// start and the order of events.
 pub fn every_program_is_confluent<P: Pie>(program: &P)
     ensures { (job : Job) → IsJob job → P.is_for program.now job → IsConfluent (P.equations program.now job) job }
 {}

@@ -1,7 +1,7 @@
 //! The core of the engine: which worker may go on, what it takes, and where what it gives is sent.
 //!
-//! A [`Hub`] serves the workers of a job, one for each fragment, to lanes. It promises that its journal is legal, that it
-//! is itself the state after that journal, and that [`Hub::next`] and [`Hub::duty`] append the first event that is
+//! A [`Hub`] serves the workers of a job, one for each fragment, to lanes. It promises that its journal is legal, that
+//! it is itself the state after that journal, and that [`Hub::next`] and [`Hub::duty`] append the first event that is
 //! admitted in the order of choice. It evaluates nothing: a lane gets a [`Work`], evaluates it, and gives it back.
 #![tactic(auto)]
 

@@ -11,11 +11,11 @@ pub struct Work {
     pub worker: u32,
     /// The place of its Take in the journal.
     pub place: u64,
-    /// Whether this is the first Take of the worker.
+    /// Whether this is the worker's first Take in the journal.
     pub fresh: bool,
     /// The values of the worker at the Take.
     pub local: Local,
-    /// For each mirror the meet of what came since the Take before.
+    /// For each mirror the meet of the mail that waited, that of the start included; `NOTHING` where none did.
     pub hand: Hand,
 }
 
@@ -26,11 +26,11 @@ pub enum Next {
     Took(Work),
     /// Another event was appended.
     Did(Event),
-    /// No event that concerns this lane is admitted, but for Gives.
+    /// No event that concerns this lane is admitted, but for Gives, and the journal hasn't ended.
     Idle,
     /// The journal has ended.
     Ended,
-    /// There is no memory for the event. Nothing has changed.
+    /// There is no memory for the event. Only the lane's record has changed.
     NoMemory,
 }
 
@@ -41,7 +41,7 @@ pub enum Duty {
     Did(Event),
     /// The Seal of this epoch was appended, and the snapshot was written.
     Sealed(u64),
-    /// None of Seal, End, Begin and Ask is admitted.
+    /// None of Seal, End, Begin and Ask is admitted, and the journal hasn't ended.
     Nothing,
     /// The journal has ended.
     Ended,

@@ -1,8 +1,8 @@
 //! A lane: a thread that serves the workers of a run under the noted lock.
 //!
 //! [`turn`] enters the lock for the hub's next event, and where that is a Take it evaluates the Work outside the lock,
-//! side by side with other lanes, and enters once more to give it back. [`lane`] takes turns until the journal has ended.
-//! What a lane relies on between two steps is its seat's note: the others leave it as it is.
+//! side by side with other lanes, and enters once more to give it back. [`lane`] takes turns until the journal has
+//! ended. What a lane relies on between two steps is its seat's note: the others leave it as it is.
 #![tactic(auto)]
 
 mod gate;

@@ -36,7 +36,8 @@ fn edge(from: u32, to: u32) -> Edge
     }
 }
 
-/// Two chains in three fragments of two vertices. The label of vertex 1 reaches the other two fragments.
+/// The chain 5, 6, 1, 2, 3 and vertex 4 alone, in three fragments of two vertices. The label of vertex 1 reaches the
+/// other two fragments.
 fn label_job(alloc: Global) -> Result<Job, NoMemory>
     ensures job { IfOk result IsLabelJob }
     ensures lanes { IfOk result (λ job. job.settings.lanes ≡ 2) }

@@ -15,11 +15,13 @@ use pie_core::{Pie, evaluate};
 use std::sync::Wait;
 
 /// One turn of a lane. It enters the lock, makes one `next` and leaves. Where that is a Take, the lane passes the gate,
-/// evaluates the Work (by PEval where it is its worker's first in the journal, and by IncEval where the hand isn't empty),
-/// enters once more and gives the Work back. Where there was no memory for the event it stops the run before it leaves.
+/// evaluates the Work (by PEval where it is its worker's first in the journal, and by IncEval where the hand isn't
+/// empty), enters once more and gives the Work back. Where there was no memory for the event it stops the run before it
+/// leaves.
 ///
 /// The seat is that of the lane, with no Work out, and its ground is that of the job whose fragments and program these
-/// are. It comes back likewise, with one call of `next` more in its record (up to `u64::MAX`), whose answer the turn's is.
+/// are. It comes back likewise, with one call of `next` more in its record (up to `u64::MAX`), whose answer the turn's
+/// is.
 pub fn turn<R: Wait, P: Pie, Q: Pacer, G: Gate>(
     rt: &R,
     lock: &NotedLock<Hub<P, Q>>,

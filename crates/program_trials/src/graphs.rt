@@ -1,4 +1,4 @@
-ghost use Rattle.std.specs.Prelude.{◌≡◌, ◌<◌, ◌≤◌, ◌^◌, length, All, IfOk};
+ghost use Rattle.std.specs.Prelude.{◌≡◌, ◌<◌, ◌≤◌, length, All, IfOk};
 ghost use Rattle.graph_core.specs.Graphs.{IsGraph};
 
 use grape_port::NoMemory;
@@ -15,6 +15,7 @@ pub fn edge(from: u32, to: u32, weight: u32) -> Edge
 }
 
 /// The graph of these edge lines, and of a loop of weight 0 at the vertex 0. It has the vertices that stand in them.
+/// `Bad` comes where a line is no edge line within the limits, and `NoMemory` where memory runs out.
 pub fn read_graph(alloc: Global, lines: &str) -> Result<Graph, TextFault>
     ensures { IfOk result IsGraph }
 {
@@ -33,7 +34,7 @@ pub fn read_graph(alloc: Global, lines: &str) -> Result<Graph, TextFault>
 fn edge_of(word: u64, vertices: u32, weights: &Range<u32>) -> Edge
     requires vertices { 1 ≤ vertices }
     requires weights { weights.now.start < weights.now.end }
-    ensures { (result.from < vertices) × (result.to < vertices) × (result.weight < 2 ^ 32) }
+    ensures { (result.from < vertices) × (result.to < vertices) × (weights.now.start ≤ result.weight) × (result.weight < weights.now.end) }
 {
     let from = (word >> 33) % u64::from(vertices);
     let to = (word >> 40) % u64::from(vertices);
@@ -41,8 +42,8 @@ fn edge_of(word: u64, vertices: u32, weights: &Range<u32>) -> Edge
     edge(from as u32, to as u32, weights.start + weight as u32)
 }
 
-/// Edges between the vertices from 0 up to before `vertices`, of these weights, drawn by a number: loops, and edges that
-/// are repeated. There is at least one vertex, and at least one weight.
+/// Edges between the vertices from 0 up to before `vertices`, of these weights, drawn by a number: loops, and edges
+/// that are repeated. There is at least one vertex, and at least one weight.
 pub fn drawn_edges(
     alloc: Global,
     number: u64,
@@ -52,7 +53,7 @@ pub fn drawn_edges(
 ) -> Result<Vec<Edge>, NoMemory>
     requires vertices { 1 ≤ vertices }
     requires weights { weights.start < weights.end }
-    ensures between { IfOk result (λ edges. All (λ e. (e.from < vertices) × (e.to < vertices) × (e.weight < 2 ^ 32)) edges.items) }
+    ensures between { IfOk result (λ edges. All (λ e. (e.from < vertices) × (e.to < vertices) × (weights.start ≤ e.weight) × (e.weight < weights.end)) edges.items) }
     ensures count { IfOk result (λ edges. length edges.items ≡ count) }
 {
     let mut edges = Vec::new(alloc);
@@ -66,8 +67,8 @@ pub fn drawn_edges(
     Ok(edges)
 }
 
-/// The graph of edges that are drawn by a number, and of a loop of weight 0 at the vertex 0. There is at least one vertex,
-/// and at least one weight.
+/// The graph of edges that are drawn by a number, and of a loop of weight 0 at the vertex 0. There is at least one
+/// vertex, and at least one weight.
 pub fn generated(
     alloc: Global,
     number: u64,

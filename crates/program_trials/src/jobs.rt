@@ -11,8 +11,10 @@ pub fn job_of(graph: Graph, query: Query, fragments: u32, cut: Cut) -> Job
     requires some { 1 ≤ fragments }
     requires few { fragments ≤ 64 }
     ensures job { IsJob result }
+    ensures graph { result.graph ≡ graph }
     ensures query { result.query ≡ query }
     ensures fragments { result.settings.fragments ≡ fragments }
+    ensures cut { result.settings.cut ≡ cut }
 {
     Job {
         graph,

@@ -1,5 +1,5 @@
-//! What the tests of the programs on fragments share: graphs, jobs and hands to try a program on, its values from the starts,
-//! and those beside plain evaluation. Nothing of it is part of the program.
+//! What the tests of the programs on fragments share: graphs, jobs and hands to try a program on, its values from the
+//! starts, and those beside plain evaluation. Nothing of it is part of the program.
 //!
 //! It promises that its graphs and jobs lie within their limits, and that an evaluated fragment is solved and can be
 //! evaluated again.

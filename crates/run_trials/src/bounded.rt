@@ -87,7 +87,7 @@ fn settings_table() -> [&'static str; 8] {
     ]
 }
 
-/// Stops where a run on these lines has too many Takes, or a worker none.
+/// Stops where a run on these lines has too many Takes, or fewer than fragments.
 fn check_takes(rt: &impl Abort, alloc: Global, lines: &str) -> Result<(), TextFault> {
     for settings in settings_table() {
         for query in query_table() {

@@ -46,7 +46,8 @@ fn keep_copy(
     Ok(())
 }
 
-/// Drives a hub with nobody out until its journal has ended, or for so many steps, and answers copies of what it sealed.
+/// Drives a hub with nobody out until its journal has ended, or for so many steps, and answers copies of what it
+/// sealed.
 fn drive<P: Pie, Q: Pacer>(
     alloc: Global,
     hub: &mut Hub<P, Q>,

@@ -41,7 +41,7 @@ pub(crate) fn query_table() -> [&'static str; 4] {
     ]
 }
 
-/// Vertex 4 stands alone at first, and the lines join its fragment to the others both ways.
+/// The chain 5, 6, 1, 2, 3 over three fragments of two vertices, and vertex 4 alone.
 pub(crate) fn joined_lines() -> &'static str {
     "1 2 1\n2 3 1\nv 4\n5 6 1\n6 1 1\n"
 }
@@ -102,7 +102,7 @@ pub(crate) fn grid(alloc: Global, side: u32) -> Result<String, NoMemory> {
     Ok(lines)
 }
 
-/// Edges between vertices that are drawn, with weights, and a way from the vertex 1.
+/// Edges between vertices that are drawn, with weights, a way from the vertex 1, and a label for each vertex.
 pub(crate) fn drawn(alloc: Global, words: &mut SplitMix64, edges: u32) -> Result<String, NoMemory> {
     let mut lines = String::from_str(alloc, "1 2 1\n2 3 1\n")?;
     for _ in 0..edges {

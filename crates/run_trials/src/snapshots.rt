@@ -73,8 +73,8 @@ fn check_run(
     Ok(journal)
 }
 
-/// Tries a query on these lines with a snapshot after every so many Takes, from three seeds. Says what was seen, with what
-/// was seen before.
+/// Tries a query on these lines with a snapshot after every so many Takes, from three seeds. Says what was seen, with
+/// what was seen before.
 fn check_settings(
     rt: &impl Abort,
     alloc: Global,

@@ -15,7 +15,8 @@ use graph_core::Fragment;
 use pie_core::{Pie, evaluate};
 use token_cut::Snapshot;
 
-/// A duty of the coordinator. A snapshot that it seals is kept at once, and is then in `into`. Says whether it sealed one.
+/// A duty of the coordinator. A snapshot that it seals is kept at once, and is then in `into`. Says whether it sealed
+/// one.
 fn do_duty<P: Pie, Q: Pacer>(hub: &mut Hub<P, Q>, into: &mut Snapshot) -> bool
     requires hub { IsLanedHub hub.old }
     requires sealed { sealed_epoch (state_of hub.old.hub).past ≡ None }
@@ -110,8 +111,8 @@ fn do_lane<P: Pie, Q: Pacer>(
     }
 }
 
-/// One step, by a number below 3: of the coordinator, of lane 0 or of lane 1. Says what the lanes have out then, and whether
-/// a snapshot was sealed.
+/// One step, by a number below 3: of the coordinator, of lane 0 or of lane 1. Says what the lanes have out then, and
+/// whether a snapshot was sealed.
 pub(crate) fn step<P: Pie, Q: Pacer>(
     hub: &mut Hub<P, Q>,
     into: &mut Snapshot,
