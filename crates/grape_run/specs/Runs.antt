@@ -11,7 +11,7 @@ use Rattle.grape_run.specs.declared.input.InputFault.TheVariants as faults
 use Rattle.grape_run.specs.declared.status.Status.{Status}
 use Rattle.grape_run.specs.declared.status.Status.TheVariants as status
 
--- what the source had is the text that was read and the rest, and the whole was read where the rest is empty
+-- nothing is left, and the text that was read is that of a job
 abbrev pub IsJobText : List ℕ → List ℕ → Type 0
 IsJobText read rest = (job : Job) × (rest ≡ []) × (input_of read ≡ Ok job)
 

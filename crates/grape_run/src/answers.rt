@@ -28,8 +28,8 @@ pub(crate) enum Outcome {
     NoMemory { story: Option<Story> },
 }
 
-/// Runs a job on the fragments of its graph, and gives its answer. On one lane it runs on the caller's thread, and the gate
-/// isn't asked.
+/// Runs a job on the fragments of its graph, and gives its answer. On one lane it runs on the caller's thread, and the
+/// gate isn't asked.
 pub(crate) fn run_job<R: Threads + Wait + Sync, G: Gate + Sync>(
     rt: &R,
     alloc: Global,

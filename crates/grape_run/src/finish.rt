@@ -7,8 +7,8 @@ use coordinator::Story;
 #[derive(Drop)]
 pub struct Finish {
     pub status: Status,
-    /// There is one after `Done` and `WriteFault`, and none where the words or the input were refused. After `NoMemory`
-    /// there is one where the run had begun: its journal ended by End, or by a Stop for want of memory.
+    /// There is one after `Done` and `WriteFault`, and none where the words or the input were refused or a read failed.
+    /// After `NoMemory` there may be one: its journal ended by End, or by a Stop for want of memory.
     pub story: Option<Story>,
 }
 

@@ -26,7 +26,8 @@ const MAX_BYTES: u64 = 268_435_456;
 
 /// Reads the job that a source has, in pieces of 65,536 bytes, to the end or to the first fault.
 ///
-/// What was read shows the fault: a bad line, unless a read failed before one was shown.
+/// A bad line is the first one, as soon as what was read shows it, or at the end of the input. `Failed` comes only
+/// where a read failed before a bad line was shown.
 pub fn read_job<S: Source>(alloc: Global, input: &mut S) -> Result<Job, InputFault>
     ensures read { ReadsJob (S.left input.old) (S.left input.new) result }
     ensures job { IfOk result IsJob }

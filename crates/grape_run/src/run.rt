@@ -1,4 +1,4 @@
-ghost use Rattle.std.specs.Prelude.{◌≡◌, ◌≤◌, ◌↔◌, Some, None, IfSome, vec_len};
+ghost use Rattle.std.specs.Prelude.{◌≡◌, ◌≤◌, ◌↔◌, [], Some, None, IfSome, vec_len};
 ghost use Rattle.grape_port.specs.Ports.{Rose, IsAllFlushed};
 ghost use Rattle.graph_text.specs.Input.{input_of};
 ghost use Rattle.grape_run.specs.Notes.{mode_of, note_text};
@@ -24,9 +24,10 @@ use std::thread::Threads;
 /// Every status but `Done` has a line, which is written to `note`; a failing `note` changes no
 /// answer. `NoMemory` may come in place of any status but `BadWords`, before anything is written.
 ///
-/// As many lanes serve the fragments as the input says, each in a thread of its own, and pass the gate with each Work
-/// before they evaluate it; on one lane no thread is made, and the gate isn't asked. There are 64 pacers, one for each
-/// fragment that there may be. What is ensured holds if the call returns: on several lanes it may wait.
+/// As many lanes serve the fragments as the input says, lane 0 in the caller's thread and each other in a thread of its
+/// own where one can be made, and pass the gate with each Work before they evaluate it; on one lane no thread is made,
+/// and the gate isn't asked. There are 64 pacers, one for each fragment that there may be. What is ensured holds if the
+/// call returns: on several lanes it may wait.
 pub fn grape<R: Threads + Wait + Sync, S: Source, O: Sink, N: Sink, G: Gate + Sync>(
     rt: &R,
     alloc: Global,
@@ -47,18 +48,24 @@ pub fn grape<R: Threads + Wait + Sync, S: Source, O: Sink, N: Sink, G: Gate + Sy
     ensures read { ReadsSource result.status (S.left input.old) (S.left input.new) }
     ensures read_fault { result.status ≡ Status.ReadFault → Rose (S.faults input.old) (S.faults input.new) }
 
-    // The answer is that of the source's text. It is written, flushed or failed to be after the statuses Done and WriteFault alone.
+    // What is written is the answer of the source's text: whole after Done, a front of it after WriteFault. After any
+    // other status `out` is untouched.
     ensures written { WritesFor result.status (S.left input.old) (O.written out.old) (O.written out.new) }
     ensures flushed { result.status ≡ Status.Done → IsAllFlushed (O.written out.new) (O.flushed out.new) }
     ensures write_fault { result.status ≡ Status.WriteFault → Rose (O.faults out.old) (O.faults out.new) }
     ensures silent { IsSilent result.status → (O.written out.new ≡ O.written out.old) × (O.flushed out.new ≡ O.flushed out.old) × (O.faults out.new ≡ O.faults out.old) }
 
-    // A run that is done, or whose writing failed, has the story of a legal journal that ended by End. Where memory ran out it ended so too, or by a Stop for that.
+    // After Done and WriteFault there is the story of a legal journal that ended by End. After NoMemory there may be
+    // one, which ended so or by a Stop for that.
     ensures story { TellsStory (S.left input.old) result.status result.story }
+
+    // Where there is a story, the source was read to its end.
+    ensures read_to_end { IfSome result.story (λ s. IfSome (S.left input.new) (λ rest. rest ≡ [])) }
 
     ensures note { AppendsUnlessFault (N.written note.old) (note_text result.status) (N.written note.new) (N.faults note.old) (N.faults note.new) }
 
-    // With the word `run`, an input is answered, and another text refused by its first bad line, unless a port failed or memory ran out.
+    // With the word `run`, an input is answered, and another text refused by its first bad line, unless a port failed
+    // or memory ran out.
     ensures complete { mode_of words.now ≡ Some Mode.Run → ¬ Rose (S.faults input.old) (S.faults input.new) → ¬ Rose (O.faults out.old) (O.faults out.new) → IfSome (S.left input.old) (λ text. EndsAs result.status (input_of text)) }
 
     ensures input_faults { S.faults input.old ≤ S.faults input.new }
@@ -90,6 +97,7 @@ fn run<R: Threads + Wait + Sync, S: Source, O: Sink, G: Gate + Sync>(
     ensures write_fault { result.status ≡ Status.WriteFault → Rose (O.faults out.old) (O.faults out.new) }
     ensures silent { IsSilent result.status → (O.written out.new ≡ O.written out.old) × (O.flushed out.new ≡ O.flushed out.old) × (O.faults out.new ≡ O.faults out.old) }
     ensures story { TellsStory (S.left input.old) result.status result.story }
+    ensures read_to_end { IfSome result.story (λ s. IfSome (S.left input.new) (λ rest. rest ≡ [])) }
     ensures input_faults { S.faults input.old ≤ S.faults input.new }
     ensures out_faults { O.faults out.old ≤ O.faults out.new }
 {

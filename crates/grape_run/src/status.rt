@@ -35,7 +35,8 @@ impl From<InputFault> for Status {
     }
 }
 
-/// The number with which a program ends that has this status: 0 for `Done`, and else from 2 on.
+/// The number with which a program of this status ends: 0 Done, 2 BadWords, 3 BadInput, 4 ReadFault, 5 WriteFault,
+/// 10 NoMemory.
 pub fn code(status: &Status) -> u8
     ensures { result ≡ code_of status.now }
 {
