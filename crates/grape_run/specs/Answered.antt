@@ -1,5 +1,5 @@
 -- What a run that is done has found.
-use Rattle.std.specs.Prelude.{◌≡◌, ◌⊎◌, ℕ, List, IfSome, slice_index}
+use Rattle.std.specs.Prelude.{◌≡◌, ℕ, List, IfSome, slice_index}
 use Rattle.graph_core.specs.declared.job.Job.{Job}
 use Rattle.graph_core.specs.Equations.{Assignment, IsGreatest}
 use Rattle.graph_core.specs.Queries.{equations_of}
@@ -7,9 +7,9 @@ use Rattle.graph_core.specs.Fragments.{IsOwnedAt, pieces_of}
 use Rattle.pie_core.specs.Locals.{LocalValues}
 use Rattle.answer_text.specs.AnswerText.{answer_text, IsAnswerText}
 use Rattle.answer_text.specs.Assembled.{values_at}
-use Rattle.grape_event.specs.declared.event.Event.TheVariants.{End, Stop}
-use Rattle.grape_event.specs.declared.event.StopCause.TheVariants.{Memory}
+use Rattle.grape_event.specs.declared.event.Event.TheVariants.{End}
 use Rattle.coordinator.specs.Runs.{IsStoryOf, EndsBy}
+use Rattle.grape_run.specs.Stories.{EndsOrRunsOut}
 use Rattle.grape_run.specs.declared.answers.Outcome.{Outcome}
 use Rattle.grape_run.specs.declared.answers.Outcome.TheVariants.{Answered, NoMemory}
 
@@ -21,4 +21,4 @@ AreGreatest job locals =
 -- What a run of a job gave: where it was done the answer, and the story of a legal journal that ended by End; where memory ran out the story of one that ended by End or was stopped by want of memory, if it had begun.
 abbrev pub IsOutcomeOf : Job → Outcome → Type 0
 IsOutcomeOf job (Answered answer story) = IsAnswerText job (answer_text answer.kind answer.rows) × IsStoryOf job story × EndsBy End story.journal.events
-IsOutcomeOf job (NoMemory story) = IfSome story (λ s. IsStoryOf job s × (EndsBy End s.journal.events ⊎ EndsBy (Stop Memory) s.journal.events))
+IsOutcomeOf job (NoMemory story) = IfSome story (λ s. IsStoryOf job s × EndsOrRunsOut s.journal.events)

@@ -69,12 +69,10 @@ abbrev pub AppendsUnlessFault : Option (List ℕ) → List ℕ → Option (List 
 AppendsUnlessFault before text after faults_before faults_after =
     Appends before text after ⊎ (Rose faults_before faults_after × AppendsFront before text after)
 
--- what reading a job gave, where the source told its text: the part that was read, and the rest
+-- what reading a job gave, where the source told its text: all of it is that job's, or the fault's status says what was read
 abbrev pub FitsText : Result Job InputFault → List ℕ → List ℕ → Type 0
 FitsText (Ok job) read rest = (rest ≡ []) × (input_of read ≡ Ok job)
-FitsText (Err (faults.Text (text_faults.Bad line why))) read rest = (shown_of read ≡ Some (bad line why)) ⊎ ((rest ≡ []) × (input_of read ≡ Err (bad line why)))
-FitsText (Err (faults.Text text_faults.NoMemory)) read rest = ⊤
-FitsText (Err faults.Failed) read rest = shown_of read ≡ None
+FitsText (Err fault) read rest = FitsRead (status_of fault) read rest
 
 abbrev pub ReadsJob : Option (List ℕ) → Option (List ℕ) → Result Job InputFault → Type 0
 ReadsJob None after result = after ≡ None
