@@ -17,12 +17,12 @@ use Rattle.legal_journal.specs.BaseEvents.{base_of}
 use Rattle.legal_journal.specs.Legal.{State, state_at_end, IsLegal}
 use Rattle.legal_journal.specs.Theorems.{EndIsQuiet, JournalRuns, JournalsGrow}
 use Rattle.coordinator.specs.declared.story.Story.{Story}
-use Rattle.coordinator.specs.Runs.{IsStoryOf, EndsBy, DoneIsTheAnswer}
+use Rattle.coordinator.specs.Runs.{IsStoryOf, EndsBy, DoneIsTheAnswer, DoneIsQuiet}
 use Rattle.coordinator.proofs.Settled.{same_values}
 
 -- nobody runs and nothing waits at the end
-quiet_at_end : EndIsQuiet → JournalsGrow → (job : Job) (story : Story) → IsStoryOf job story → EndsBy End story.journal.events → is_quiet (state_at_end (system_of job) story.start story.journal.events).workers ≡ true
-quiet_at_end end_is_quiet journals_grow job story is_story ends =
+pub done_is_quiet : EndIsQuiet → JournalsGrow → DoneIsQuiet
+done_is_quiet end_is_quiet journals_grow job story is_story ends =
     let sys = system_of job in
     let before = end_is_quiet sys story.start ends.0 (subst (IsLegal sys story.start) ends.1 is_story.legal) in
     ap (λ (es : List Event). is_quiet (state_at_end sys story.start es).workers) ends.1 ∙ (ap (λ (s : State). is_quiet s.workers) (journals_grow sys story.start ends.0 End).1 ∙ before.0)
@@ -36,7 +36,7 @@ done_is_the_answer end_is_quiet journals_grow journal_runs job fragments story l
     let events = story.journal.events in
     let ws = (state_at_end sys story.start events).workers in
     let fit : IsFit sys g (base_state_of story.start) = subst (λ (s : SnapshotParts). IsFit sys g (base_state_of s)) (sym is_story.start) (fresh_is_fit sys g (sound job is_job) greatest) in
-    let quiet = quiet_at_end end_is_quiet journals_grow job story is_story ends in
+    let quiet = done_is_quiet end_is_quiet journals_grow job story is_story ends in
     let run = journal_runs sys story.start events is_story.legal in
     ap (λ (vs : List ℕ). slice_index vs p) (same_values ws locals are.values i)
     ∙ confluence_from fit_is_kept sys g (sound job is_job) greatest story.start (base_of (length story.start.parts) events) ws fit run quiet i p v owned

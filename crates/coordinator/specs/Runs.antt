@@ -1,5 +1,5 @@
 -- What a run tells.
-use Rattle.std.specs.Prelude.{◌≡◌, ℕ, List, [], ◌∷◌, ◌++◌, true, ⊤, length, slice_index}
+use Rattle.std.specs.Prelude.{◌≡◌, ℕ, List, [], ◌∷◌, ◌++◌, true, IsTrue, ⊤, length, slice_index}
 use Rattle.std.specs.List.{AllZip}
 use Rattle.graph_core.specs.declared.job.Job.{Job}
 use Rattle.graph_core.specs.Graphs.{IsJob}
@@ -14,6 +14,7 @@ use Rattle.grape_event.specs.declared.event.Event.TheVariants.{End, Stop}
 use Rattle.grape_event.specs.declared.event.StopCause.TheVariants.{Memory}
 use Rattle.grape_event.specs.Events.{is_last}
 use Rattle.base_machine.specs.Machine.{system_of, fresh_snapshot}
+use Rattle.base_machine.specs.Fitness.{is_quiet}
 use Rattle.legal_journal.specs.Legal.{state_at_end, IsLegal}
 use Rattle.coordinator.specs.declared.ran.Ran.{Ran}
 use Rattle.coordinator.specs.declared.ran.Ran.TheVariants.{Done, Stopped, NoMemory}
@@ -46,6 +47,14 @@ HasRun job fragments (Stopped cause story) = IsStoryOf job story × EndsBy (Stop
 HasRun job fragments NoMemory = ⊤
 
 -- ---- what the end means
+
+-- When the story's journal has been written nobody runs and nothing waits.
+abbrev pub EndsQuiet : Job → Story → Type 0
+EndsQuiet job story = IsTrue (is_quiet (state_at_end (system_of job) story.start story.journal.events).workers)
+
+-- Where a run is done, nobody runs and nothing waits at its end.
+abbrev pub DoneIsQuiet : Type 0
+DoneIsQuiet = (job : Job) (story : Story) → IsStoryOf job story → EndsBy End story.journal.events → EndsQuiet job story
 
 -- Where a run is done, the owners have the greatest solution of the job's equations.
 abbrev pub DoneIsTheAnswer : Type 0

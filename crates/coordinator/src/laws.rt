@@ -1,4 +1,4 @@
-ghost use Rattle.coordinator.specs.Runs.{DoneIsTheAnswer};
+ghost use Rattle.coordinator.specs.Runs.{DoneIsTheAnswer, DoneIsQuiet};
 ghost use Rattle.coordinator.specs.Shapes.{ShapesBeginRuns, FormsAgree};
 
 use legal_journal::{end_is_quiet, journal_runs, journals_grow};
@@ -22,4 +22,12 @@ pub fn done_is_the_answer()
     end_is_quiet();
     journals_grow();
     journal_runs();
+}
+
+/// Where a run is done, no worker runs at its end, and no message waits.
+pub fn done_is_quiet()
+    ensures { DoneIsQuiet }
+{
+    end_is_quiet();
+    journals_grow();
 }

@@ -25,7 +25,7 @@ mod turn;
 pub use alone::run_alone;
 pub use kept_at::KeptAt;
 pub use lanes::run_lanes;
-pub use laws::{done_is_the_answer, forms_agree, shapes_begin_runs};
+pub use laws::{done_is_quiet, done_is_the_answer, forms_agree, shapes_begin_runs};
 pub use ran::Ran;
 pub use shape::shape_of;
 pub use story::Story;

@@ -1,56 +1,9 @@
-//! The program `grape`: standard input, output and error as the ports of one run.
+//! The program `grape`.
 #![tactic(auto)]
 
-use delay_stretch::{Pacer, Seeded};
-use grape_port::{NoMemory, StdSink, StdSource};
-use grape_run::{Status, Words, code, grape};
-use lane_loop::OpenGate;
+use grape_main::program;
 use std::process::ExitCode;
-use std::rt::Env;
-use std::{env, io};
-
-/// The words behind the program's name. Words that are no text are none, which asks for nothing.
-fn command_words(rt: &(impl Env + AllocGlobal)) -> Result<Words, NoMemory> {
-    let mut words = Words::new(rt.alloc());
-    let arguments = match env::args(rt) {
-        Ok(arguments) => arguments,
-        Err(error) if error.kind() == io::ErrorKind::OutOfMemory => return Err(NoMemory),
-        Err(_) => return Ok(words),
-    };
-    for word in arguments.skip(1) {
-        words.push(word.as_str())?;
-    }
-    Ok(words)
-}
-
-/// How the program ends where its own making finds no memory.
-fn no_memory() -> ExitCode {
-    ExitCode::from(code(&Status::NoMemory))
-}
 
 fn main(rt: HostRuntime) -> ExitCode {
-    let Ok(words) = command_words(&rt) else {
-        return no_memory();
-    };
-    // a pacer for each fragment that there may be, seeded with its number
-    let mut pacers: Vec<Box<dyn Pacer + Send>> = Vec::new(rt.alloc());
-    'pacers: for number in 0..64 {
-        let Ok(pacer) = Box::new(rt.alloc(), Seeded::new(number)) else {
-            return no_memory();
-        };
-        let Ok(()) = pacers.push(pacer) else {
-            return no_memory();
-        };
-    }
-    let finish = grape(
-        &rt,
-        rt.alloc(),
-        &words,
-        &mut StdSource::new(rt.stdin()),
-        &mut StdSink::new(rt.stdout()),
-        &mut StdSink::new(rt.stderr()),
-        pacers,
-        &OpenGate,
-    );
-    ExitCode::from(code(&finish.status))
+    program(&rt, rt.stdin(), rt.stdout(), rt.stderr())
 }

@@ -15,7 +15,8 @@ use Rattle.answer_text.specs.AnswerTable.{AnswerTable}
 use Rattle.answer_text.specs.AnswerText.{answer_text, kind_of, IsAnswerText}
 use Rattle.answer_text.specs.Assembled.{IsAssembled}
 use Rattle.grape_run.specs.Answered.{AreGreatest}
-use Rattle.grape_run.specs.Runs.{ReadsJob, IsInputOf, IsAnswerFor}
+use Rattle.grape_run.specs.Runs.{ReadsJob, IsInputOf}
+use Rattle.grape_run.specs.Commands.{IsAskedFor}
 
 pub assembled_is_answer : (job : Job) (locals : List LocalValues) (table : AnswerTable) → IsJob job → AreGreatest job locals → IsAssembled job locals table → IsAnswerText job (answer_text table.kind table.rows)
 assembled_is_answer job locals table h greatest made =
@@ -33,6 +34,6 @@ is_input : (told after : Option (List ℕ)) (job : Job) → ReadsJob told after 
 is_input None after job h = tt
 is_input (Some text) after job h = ap input_of (h.2 ∙ ap (λ r. h.0 ++ r) h.4.0 ∙ append-nil h.0) ∙ h.4.1
 
--- the answer of the job that was read
-pub answer_for : (told after : Option (List ℕ)) (job : Job) (answer : List ℕ) → ReadsJob told after (Ok job) → IsJob job → IsAnswerText job answer → IsAnswerFor told answer
-answer_for told after job answer read within is = record { job = job; within = within; is_input = is_input told after job read; is_answer = is }
+-- the job that was read was asked for
+pub asked_for : (told after : Option (List ℕ)) (job : Job) → ReadsJob told after (Ok job) → IsJob job → IsAskedFor told job
+asked_for told after job read within = record { within = within; is_input = is_input told after job read }

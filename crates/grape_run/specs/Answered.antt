@@ -7,9 +7,8 @@ use Rattle.graph_core.specs.Fragments.{IsOwnedAt, pieces_of}
 use Rattle.pie_core.specs.Locals.{LocalValues}
 use Rattle.answer_text.specs.AnswerText.{answer_text, IsAnswerText}
 use Rattle.answer_text.specs.Assembled.{values_at}
-use Rattle.grape_event.specs.declared.event.Event.TheVariants.{End}
-use Rattle.coordinator.specs.Runs.{IsStoryOf, EndsBy}
-use Rattle.grape_run.specs.Stories.{EndsOrRunsOut}
+use Rattle.coordinator.specs.Runs.{IsStoryOf}
+use Rattle.grape_run.specs.Commands.{EndsByProbe, EndsOrRunsOut}
 use Rattle.grape_run.specs.declared.answers.Outcome.{Outcome}
 use Rattle.grape_run.specs.declared.answers.Outcome.TheVariants.{Answered, NoMemory}
 
@@ -18,7 +17,7 @@ abbrev pub AreGreatest : Job → List LocalValues → Type 0
 AreGreatest job locals =
     (g : Assignment) → IsGreatest (equations_of job) g → (i p v : ℕ) → IsOwnedAt (pieces_of job) i p v → slice_index (values_at locals i) p ≡ g v
 
--- What a run of a job gave: where it was done the answer, and the story of a legal journal that ended by End; where memory ran out the story of one that ended by End or was stopped by want of memory, if it had begun.
+-- What a run of a job gave: where it was done the answer, and the story of a run that ended by a probe; where memory ran out the story of one that ended by End or was stopped by want of memory, if it had begun.
 abbrev pub IsOutcomeOf : Job → Outcome → Type 0
-IsOutcomeOf job (Answered answer story) = IsAnswerText job (answer_text answer.kind answer.rows) × IsStoryOf job story × EndsBy End story.journal.events
+IsOutcomeOf job (Answered answer story) = IsAnswerText job (answer_text answer.kind answer.rows) × EndsByProbe job story
 IsOutcomeOf job (NoMemory story) = IfSome story (λ s. IsStoryOf job s × EndsOrRunsOut s.journal.events)

@@ -2,9 +2,7 @@
 use Rattle.std.specs.Prelude.{◌≡◌, ℕ, ◌⊎◌, List, [], ◌++◌, Option, Some, None, Result, Ok, Err, ⊤}
 use Rattle.grape_port.specs.Ports.{Rose, Appends, AppendsFront}
 use Rattle.graph_core.specs.declared.job.Job.{Job}
-use Rattle.graph_core.specs.Graphs.{IsJob}
 use Rattle.graph_text.specs.Input.{BadLine, bad, input_of, shown_of}
-use Rattle.answer_text.specs.AnswerText.{IsAnswerText}
 use Rattle.graph_text.specs.declared.fault.TextFault.TheVariants as text_faults
 use Rattle.grape_run.specs.declared.input.InputFault.{InputFault}
 use Rattle.grape_run.specs.declared.input.InputFault.TheVariants as faults
@@ -33,19 +31,6 @@ ReadsSource s (Some before) after = (read rest : List ℕ) × (before ≡ read +
 abbrev pub IsInputOf : Option (List ℕ) → Job → Type 0
 IsInputOf None job = ⊤
 IsInputOf (Some text) job = input_of text ≡ Ok job
-
--- the text is the answer of a job within the limits, which is that of the source's text
-pub record IsAnswerFor (told : Option (List ℕ)) (answer : List ℕ) : Type 0 where
-  pub job : Job
-  pub within : IsJob job
-  pub is_input : IsInputOf told job
-  pub is_answer : IsAnswerText job answer
-
--- What a run with this status wrote, where its source had this text: the answer, a front of it, or nothing.
-abbrev pub WritesFor : Status → Option (List ℕ) → Option (List ℕ) → Option (List ℕ) → Type 0
-WritesFor status.Done told before after = (answer : List ℕ) × IsAnswerFor told answer × Appends before answer after
-WritesFor status.WriteFault told before after = (answer : List ℕ) × IsAnswerFor told answer × AppendsFront before answer after
-WritesFor s told before after = after ≡ before
 
 -- a run answers neither of the statuses after which something is written
 abbrev pub IsSilent : Status → Type 0

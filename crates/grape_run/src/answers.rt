@@ -8,7 +8,7 @@ ghost use Rattle.coordinator.specs.Shapes.{shape_of as shape_of_job};
 ghost use Rattle.grape_run.specs.Answered.{IsOutcomeOf};
 
 use answer_text::{Answer, assemble};
-use coordinator::{Ran, Story, done_is_the_answer, run_alone, run_lanes, shape_of};
+use coordinator::{Ran, Story, done_is_quiet, done_is_the_answer, run_alone, run_lanes, shape_of};
 use delay_stretch::Pacer;
 use fragment_cut::fragment;
 use graph_core::{Fragment, Job};
@@ -96,6 +96,7 @@ fn answered(
     ensures { IsOutcomeOf job.now result }
 {
     done_is_the_answer();
+    done_is_quiet();
     match assemble(alloc, job, fragments, locals) {
         Ok(answer) => Outcome::Answered { answer, story },
         Err(_) => Outcome::NoMemory { story: Some(story) },

@@ -7,7 +7,8 @@ use coordinator::Story;
 #[derive(Drop)]
 pub struct Finish {
     pub status: Status,
-    /// There is one after `Done` and `WriteFault`, and none where the words or the input were refused or a read failed.
+    /// There is one after `Done` and `WriteFault`, whose journal ended by a probe with no worker running and no message
+    /// waiting, and none where the words or the input were refused or a read failed.
     /// After `NoMemory` there may be one: its journal ended by End, or by a Stop for want of memory.
     pub story: Option<Story>,
 }

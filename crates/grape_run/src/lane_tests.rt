@@ -2,12 +2,14 @@
 ghost use Rattle.std.specs.Prelude.{◌≡◌, IfOk, vec_len};
 
 use crate::{Finish, Status, Words, grape};
+use coordinator::Story;
 use delay_stretch::{Calm, Pacer, Scripted};
+use grape_event::Event;
 use grape_port::{MemSink, MemSource, NoMemory};
 use lane_loop::{Gate, OpenGate};
 use std::alloc::Global;
 use std::sync::Wait;
-use std::sync::atomic::{AtomicBool, Ordering};
+use std::sync::atomic::{AtomicBool, AtomicU64, Ordering};
 use std::test::Fail;
 use std::thread::{Threads, yield_now};
 
@@ -18,16 +20,21 @@ pub(crate) enum Answers {
     Calm,
     /// This number for the first thousand calls, and then 0.
     Thousand(u32),
+    /// The pacer's own number and one more, for the first thousand calls, and then 0.
+    Numbered,
 }
 
-fn boxed(alloc: Global, answers: &Answers) -> Result<Box<dyn Pacer + Send>, NoMemory> {
-    match answers {
-        Answers::Calm => Ok(Box::new(alloc, Calm)?),
-        Answers::Thousand(answer) => {
-            let script = vec![in alloc; *answer; 1000]?;
-            Ok(Box::new(alloc, Scripted::new(script))?)
-        }
-    }
+/// The pacer with this number.
+fn boxed(alloc: Global, answers: &Answers, number: u32) -> Result<Box<dyn Pacer + Send>, NoMemory>
+    requires number { number < 64 }
+{
+    let answer = match answers {
+        Answers::Calm => return Ok(Box::new(alloc, Calm)?),
+        Answers::Thousand(answer) => *answer,
+        Answers::Numbered => number + 1,
+    };
+    let script = vec![in alloc; answer; 1000]?;
+    Ok(Box::new(alloc, Scripted::new(script))?)
 }
 
 /// As many pacers as a run needs.
@@ -38,8 +45,8 @@ pub(crate) fn pacers_of(
     ensures { IfOk result (λ pacers. vec_len pacers ≡ 64) }
 {
     let mut pacers = Vec::with_capacity(alloc, 64)?;
-    'pacers: for _ in 0..64_usize {
-        pacers.push(boxed(alloc, answers)?)?;
+    'pacers: for number in 0..64_u32 {
+        pacers.push(boxed(alloc, answers, number)?)?;
     }
     Ok(pacers)
 }
@@ -155,5 +162,97 @@ fn two_lanes_meet_at_the_gate(rt: HostRuntime) -> Result<(), Fail> {
         run.out.bytes(),
         b"answer label 6\n1 1\n2 1\n3 1\n4 4\n5 1\n6 1\nend\n".as_slice()
     );
+    Ok(())
+}
+
+/// How many stretches of a worker a journal has that were lengthened by the worker's number and one, and how many by
+/// another number. The policy of the run is `bsp`, whose formula gives no turns.
+fn stretches_of(story: &Story, number: u32) -> (u64, u64) {
+    let mut own = 0_u64;
+    let mut others = 0_u64;
+    for place in 0..story.journal.len() {
+        if let Some(Event::Stretch { worker, turns }) = story.journal.get(place) {
+            if worker == number && turns == number + 1 {
+                own = own.saturating_add(1);
+            } else if worker == number {
+                others = others.saturating_add(1);
+            }
+        }
+    }
+    (own, others)
+}
+
+/// Each worker's stretches are lengthened by the pacer with its number, on one lane and on several. The way from 7 goes
+/// five times between the fragments 1 and 2, so whatever the schedule a value comes to both after their first Take.
+#[test]
+fn each_worker_has_its_own_pacer(rt: HostRuntime) -> Result<(), Fail> {
+    for lanes in [b"lanes 1\n", b"lanes 3\n"] {
+        let text: [&[u8]; 2] = [
+            b"query dist 7\nfragments 3\ncut range\npolicy bsp\nv 1\nv 2\nv 3\n7 4\n4 8\n8 5\n5 9\n9 6\n",
+            lanes,
+        ];
+        let run = run_with(&rt, &text, &Answers::Numbered, &OpenGate)?;
+        assert_eq!(rt; run.finish.status, Status::Done, "of {text:?}");
+        let Some(story) = &run.finish.story else {
+            panic!(rt; "a run that is done has a story");
+        };
+        for worker in [1_u32, 2] {
+            let (own, others) = stretches_of(story, worker);
+            assert!(rt; own > 0, "no stretch of worker {worker} of {text:?}");
+            assert_eq!(rt; others, 0, "worker {worker} of {text:?}");
+        }
+    }
+    Ok(())
+}
+
+/// A gate that waits until three Works have come to it, and counts them.
+#[derive(Drop)]
+struct Three {
+    came: AtomicU64,
+    met: AtomicBool,
+}
+
+impl Gate for Three {
+    fn pass(&self, _worker: u32) {
+        self.came.fetch_add(1, Ordering::SeqCst);
+        for _ in 0..TURNS {
+            if self.came.load(Ordering::SeqCst) >= 3 {
+                return;
+            }
+            yield_now();
+        }
+        self.met.store(false, Ordering::SeqCst);
+    }
+}
+
+fn gate_of_three() -> Three {
+    Three {
+        came: AtomicU64::new(0),
+        met: AtomicBool::new(true),
+    }
+}
+
+/// Three lanes have Works out at the same time: each waits at the gate until all three have come there.
+#[test]
+fn three_lanes_meet_at_the_gate(rt: HostRuntime) -> Result<(), Fail> {
+    let gate = gate_of_three();
+    let text: [&[u8]; 1] = [
+        b"query label\nfragments 3\ncut range\npolicy ap\nlanes 3\n1 2\n2 3\nv 4\n5 6\n6 1\n",
+    ];
+    let run = run_with(&rt, &text, &Answers::Calm, &gate)?;
+    assert_eq!(rt; run.finish.status, Status::Done);
+    assert!(rt; gate.came.load(Ordering::SeqCst) >= 3, "too few Works came");
+    assert!(rt; gate.met.load(Ordering::SeqCst), "the lanes didn't meet");
+    Ok(())
+}
+
+/// On one lane the gate isn't asked: it would wait for others there.
+#[test]
+fn one_lane_passes_no_gate(rt: HostRuntime) -> Result<(), Fail> {
+    let gate = gate_of_three();
+    let text: [&[u8]; 1] = [b"query dist 1\nfragments 3\nlanes 1\n1 2 5\n2 3 1\n1 3 9\n"];
+    let run = run_with(&rt, &text, &Answers::Calm, &gate)?;
+    assert_eq!(rt; run.finish.status, Status::Done);
+    assert_eq!(rt; gate.came.load(Ordering::SeqCst), 0);
     Ok(())
 }

@@ -2,8 +2,10 @@ ghost use Rattle.std.specs.Prelude.{◌≡◌, ◌≤◌, ◌↔◌, [], Some, N
 ghost use Rattle.grape_port.specs.Ports.{Rose, IsAllFlushed};
 ghost use Rattle.graph_text.specs.Input.{input_of};
 ghost use Rattle.grape_run.specs.Notes.{mode_of, note_text};
-ghost use Rattle.grape_run.specs.Runs.{ReadsSource, WritesFor, IsSilent, AppendsUnlessFault, EndsAs};
-ghost use Rattle.grape_run.specs.Stories.{TellsStory};
+ghost use Rattle.graph_core.specs.Graphs.{IsJob};
+ghost use Rattle.graph_text.specs.Input.{IsBuilt};
+ghost use Rattle.grape_run.specs.Runs.{ReadsSource, IsSilent, AppendsUnlessFault, EndsAs};
+ghost use Rattle.grape_run.specs.Commands.{HasRead, HasDone, Does};
 
 use crate::answers::{Outcome, run_job};
 use crate::finish::Finish;
@@ -14,6 +16,7 @@ use crate::words::{Mode, WordFault, Words, read_words};
 use answer_text::write_answer;
 use delay_stretch::Pacer;
 use grape_port::{Sink, Source};
+use graph_core::Job;
 use graph_text::shown_is_first;
 use lane_loop::Gate;
 use std::alloc::Global;
@@ -48,16 +51,13 @@ pub fn grape<R: Threads + Wait + Sync, S: Source, O: Sink, N: Sink, G: Gate + Sy
     ensures read { ReadsSource result.status (S.left input.old) (S.left input.new) }
     ensures read_fault { result.status ≡ Status.ReadFault → Rose (S.faults input.old) (S.faults input.new) }
 
-    // What is written is the answer of the source's text: whole after Done, a front of it after WriteFault. After any
-    // other status `out` is untouched.
-    ensures written { WritesFor result.status (S.left input.old) (O.written out.old) (O.written out.new) }
+    // One job is that of the source's text, of the story and of what was written: its whole answer after Done, a front
+    // of it after WriteFault. After these two there is the story of its run, which ended by a probe with no worker
+    // running and no message waiting. After NoMemory there may be one, which ended so or by a Stop for that.
+    ensures does { Does result.status result.story (S.left input.old) (O.written out.old) (O.written out.new) }
     ensures flushed { result.status ≡ Status.Done → IsAllFlushed (O.written out.new) (O.flushed out.new) }
     ensures write_fault { result.status ≡ Status.WriteFault → Rose (O.faults out.old) (O.faults out.new) }
     ensures silent { IsSilent result.status → (O.written out.new ≡ O.written out.old) × (O.flushed out.new ≡ O.flushed out.old) × (O.faults out.new ≡ O.faults out.old) }
-
-    // After Done and WriteFault there is the story of a legal journal that ended by End. After NoMemory there may be
-    // one, which ended so or by a Stop for that.
-    ensures story { TellsStory (S.left input.old) result.status result.story }
 
     // Where there is a story, the source was read to its end.
     ensures read_to_end { IfSome result.story (λ s. IfSome (S.left input.new) (λ rest. rest ≡ [])) }
@@ -92,11 +92,10 @@ fn run<R: Threads + Wait + Sync, S: Source, O: Sink, G: Gate + Sync>(
     ensures unread { result.status ≡ Status.BadWords → (S.left input.new ≡ S.left input.old) × (S.faults input.new ≡ S.faults input.old) }
     ensures read { ReadsSource result.status (S.left input.old) (S.left input.new) }
     ensures read_fault { result.status ≡ Status.ReadFault → Rose (S.faults input.old) (S.faults input.new) }
-    ensures written { WritesFor result.status (S.left input.old) (O.written out.old) (O.written out.new) }
+    ensures does { Does result.status result.story (S.left input.old) (O.written out.old) (O.written out.new) }
     ensures flushed { result.status ≡ Status.Done → IsAllFlushed (O.written out.new) (O.flushed out.new) }
     ensures write_fault { result.status ≡ Status.WriteFault → Rose (O.faults out.old) (O.faults out.new) }
     ensures silent { IsSilent result.status → (O.written out.new ≡ O.written out.old) × (O.flushed out.new ≡ O.flushed out.old) × (O.faults out.new ≡ O.faults out.old) }
-    ensures story { TellsStory (S.left input.old) result.status result.story }
     ensures read_to_end { IfSome result.story (λ s. IfSome (S.left input.new) (λ rest. rest ≡ [])) }
     ensures input_faults { S.faults input.old ≤ S.faults input.new }
     ensures out_faults { O.faults out.old ≤ O.faults out.new }
@@ -110,7 +109,28 @@ fn run<R: Threads + Wait + Sync, S: Source, O: Sink, G: Gate + Sync>(
         Ok(job) => job,
         Err(fault) => return Finish::without_story(Status::from(fault)),
     };
-    let (answer, story) = match run_job(rt, alloc, &job, pacers, gate) {
+    finish_job(rt, alloc, &job, out, pacers, gate)
+}
+
+/// What follows when the job was read: its run, and the writing of its answer.
+fn finish_job<R: Threads + Wait + Sync, O: Sink, G: Gate + Sync>(
+    rt: &R,
+    alloc: Global,
+    job: &Job,
+    out: &mut O,
+    pacers: Vec<Box<dyn Pacer + Send>>,
+    gate: &G,
+) -> Finish
+    requires job { IsJob job.now }
+    requires built { IsBuilt job.now }
+    ensures read { HasRead result.status }
+    ensures done { HasDone job.now result.status result.story (O.written out.old) (O.written out.new) }
+    ensures flushed { result.status ≡ Status.Done → IsAllFlushed (O.written out.new) (O.flushed out.new) }
+    ensures write_fault { result.status ≡ Status.WriteFault → Rose (O.faults out.old) (O.faults out.new) }
+    ensures silent { IsSilent result.status → (O.written out.new ≡ O.written out.old) × (O.flushed out.new ≡ O.flushed out.old) × (O.faults out.new ≡ O.faults out.old) }
+    ensures out_faults { O.faults out.old ≤ O.faults out.new }
+{
+    let (answer, story) = match run_job(rt, alloc, job, pacers, gate) {
         Outcome::Answered { answer, story } => (answer, story),
         Outcome::NoMemory { story } => {
             return Finish {

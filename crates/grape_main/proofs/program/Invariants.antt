@@ -1,5 +1,5 @@
 use Rattle.std.proofs.Common.{◌≡◌, vec_len}
-use Rattle.grape_cli.proofs.main.Given as goal
+use Rattle.grape_main.proofs.program.Given as goal
 
 abbrev pub invariant-pacers : goal.invariant-pacers
 invariant-pacers g l = vec_len l.pacers ≡ l.number
