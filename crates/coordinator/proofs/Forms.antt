@@ -62,14 +62,14 @@ module _ (job : Job) (is_job : IsJob job) where
   all_starts : (i : ℕ) → starts_of e (places (piece_of job i)) ≡ starts_of e (owned_of job i) ++ starts_of e (mirrors_of job i)
   all_starts i = map-append e.start (owned_of job i) (mirrors_of job i)
 
-  part_begins : (i : ℕ) (part : PartValues) → form.IsPartInForm e.order (starts_in job (fragment_of job i)) part → fitness.IsPartInForm (system_of job) (piece_of job i) part
+  part_begins : (i : ℕ) (part : PartValues) → form.IsPartInSlotForm e.order (starts_in job (fragment_of job i)) part → fitness.IsPartInForm (system_of job) (piece_of job i) part
   part_begins i part h = record {
     values = subst (AllZip (Below e.order) part.values) (sym (all_starts i)) h.values;
     fresh = λ phase. h.fresh phase ∙ sym (all_starts i);
     mail = h.mail;
   }
 
-  part_stands : (i : ℕ) (part : PartValues) → fitness.IsPartInForm (system_of job) (piece_of job i) part → form.IsPartInForm e.order (starts_in job (fragment_of job i)) part
+  part_stands : (i : ℕ) (part : PartValues) → fitness.IsPartInForm (system_of job) (piece_of job i) part → form.IsPartInSlotForm e.order (starts_in job (fragment_of job i)) part
   part_stands i part h =
       let mirrors = passing_inside _ in
       let all = all_append (λ v. v < count_of job.graph) (owned_of job i) (mirrors_of job i) (passing_inside _) mirrors in
@@ -85,13 +85,13 @@ module _ (job : Job) (is_job : IsJob job) where
 
   -- ---- all parts
 
-  parts_begin : (is : List ℕ) (parts : List PartValues) → AllZip (form.IsPartInForm e.order) (map (starts_in job) (map (fragment_of job) is)) parts → AllZip (fitness.IsPartInForm (system_of job)) (map (piece_of job) is) parts
+  parts_begin : (is : List ℕ) (parts : List PartValues) → AllZip (form.IsPartInSlotForm e.order) (map (starts_in job) (map (fragment_of job) is)) parts → AllZip (fitness.IsPartInForm (system_of job)) (map (piece_of job) is) parts
   parts_begin [] [] h = tt
   parts_begin [] (part ∷ parts) h = absurd h
   parts_begin (i ∷ is) [] h = absurd h
   parts_begin (i ∷ is) (part ∷ parts) h = (part_begins i part h.0, parts_begin is parts h.1)
 
-  parts_stand : (is : List ℕ) (parts : List PartValues) → AllZip (fitness.IsPartInForm (system_of job)) (map (piece_of job) is) parts → AllZip (form.IsPartInForm e.order) (map (starts_in job) (map (fragment_of job) is)) parts
+  parts_stand : (is : List ℕ) (parts : List PartValues) → AllZip (fitness.IsPartInForm (system_of job)) (map (piece_of job) is) parts → AllZip (form.IsPartInSlotForm e.order) (map (starts_in job) (map (fragment_of job) is)) parts
   parts_stand [] [] h = tt
   parts_stand [] (part ∷ parts) h = absurd h
   parts_stand (i ∷ is) [] h = absurd h

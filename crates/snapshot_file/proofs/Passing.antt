@@ -9,7 +9,7 @@ use Rattle.value_order.specs.declared.order.Order.{Order}
 use Rattle.value_order.specs.declared.order.Order.TheVariants.{Least, Mask}
 use Rattle.token_cut.specs.declared.phase.Phase.{Phase}
 use Rattle.token_cut.specs.declared.phase.Phase.TheVariants.{Fresh, Rest}
-use Rattle.token_cut.specs.Form.{IsEpoch, IsPartInForm, IsInForm}
+use Rattle.token_cut.specs.Form.{IsEpoch, IsPartInSlotForm, IsInSlotForm}
 use Rattle.token_cut.specs.Parts.{PartValues, SnapshotParts}
 use Rattle.token_cut.specs.Shapes.{PartStarts, Starts}
 use Rattle.snapshot_file.specs.Tests.{is_epoch, is_below, is_value, is_mail, value_tests, mail_tests}
@@ -139,7 +139,7 @@ all_below order (n ∷ ns) (start ∷ starts) all = (start_below order start n a
 
 -- ---- a part
 
-pub part_from : (order : Order) (starts : PartStarts) (part : PartValues) → PartPasses order starts part → IsPartInForm order starts part
+pub part_from : (order : Order) (starts : PartStarts) (part : PartValues) → PartPasses order starts part → IsPartInSlotForm order starts part
 part_from order starts part passes = record {
   values = values_of part.phase passes.values;
   fresh = λ is. same_of part.phase is passes.values;
@@ -155,7 +155,7 @@ part_from order starts part passes = record {
     same_of Fresh is p = same_from part.values (starts.owned ++ starts.mirrors) (pass_from (is_value order Fresh) (λ (n start : ℕ). n ≡ start) equal_from (starts.owned ++ starts.mirrors) part.values p)
     same_of Rest is p = cc
 
-pub part_to : (order : Order) (starts : PartStarts) (part : PartValues) → IsPartInForm order starts part → PartPasses order starts part
+pub part_to : (order : Order) (starts : PartStarts) (part : PartValues) → IsPartInSlotForm order starts part → PartPasses order starts part
 part_to order starts part form = record {
   values = values_of part.phase form.fresh;
   mail = pass_to (is_mail order) (λ x top. (x ≡ NOTHING) ⊎ Below order x top) (mail_to order) starts.mirrors part.mail form.mail (fit_behind part.values part.mail form.numbers);
@@ -167,20 +167,20 @@ part_to order starts part form = record {
 
 -- ---- a snapshot
 
-parts_from : (order : Order) (shape : List PartStarts) (parts : List PartValues) → PartsPass order shape parts → AllZip (IsPartInForm order) shape parts
+parts_from : (order : Order) (shape : List PartStarts) (parts : List PartValues) → PartsPass order shape parts → AllZip (IsPartInSlotForm order) shape parts
 parts_from order [] [] p = tt
 parts_from order [] (part ∷ parts) p = absurd p
 parts_from order (starts ∷ shape) [] p = absurd p
 parts_from order (starts ∷ shape) (part ∷ parts) p = (part_from order starts part p.0, parts_from order shape parts p.1)
 
-parts_to : (order : Order) (shape : List PartStarts) (parts : List PartValues) → AllZip (IsPartInForm order) shape parts → PartsPass order shape parts
+parts_to : (order : Order) (shape : List PartStarts) (parts : List PartValues) → AllZip (IsPartInSlotForm order) shape parts → PartsPass order shape parts
 parts_to order [] [] p = tt
 parts_to order [] (part ∷ parts) p = absurd p
 parts_to order (starts ∷ shape) [] p = absurd p
 parts_to order (starts ∷ shape) (part ∷ parts) p = (part_to order starts part p.0, parts_to order shape parts p.1)
 
-pub form_from : (shape : Starts) (slot : ℕ) (snapshot : SnapshotParts) → Passes shape slot snapshot → IsInForm shape slot snapshot
+pub form_from : (shape : Starts) (slot : ℕ) (snapshot : SnapshotParts) → Passes shape slot snapshot → IsInSlotForm shape slot snapshot
 form_from shape slot snapshot p = record { epoch = epoch_from slot snapshot.epoch p.epoch; parts = parts_from shape.order shape.parts snapshot.parts p.parts }
 
-pub form_to : (shape : Starts) (slot : ℕ) (snapshot : SnapshotParts) → IsInForm shape slot snapshot → Passes shape slot snapshot
+pub form_to : (shape : Starts) (slot : ℕ) (snapshot : SnapshotParts) → IsInSlotForm shape slot snapshot → Passes shape slot snapshot
 form_to shape slot snapshot form = record { epoch = epoch_to slot snapshot.epoch form.epoch; parts = parts_to shape.order shape.parts snapshot.parts form.parts }

@@ -9,7 +9,7 @@ use Rattle.byteorder.specs.Numbers.{big_number-reads_back, length-bytes_high_fir
 use Rattle.value_order.specs.declared.order.Order.{Order}
 use Rattle.token_cut.specs.declared.phase.Phase.{Phase}
 use Rattle.token_cut.specs.declared.phase.Phase.TheVariants.{Fresh, Rest}
-use Rattle.token_cut.specs.Form.{IsInForm}
+use Rattle.token_cut.specs.Form.{IsInSlotForm}
 use Rattle.snapshot_file.specs.Tests.{is_epoch, is_value, is_mail, value_tests, mail_tests}
 use Rattle.snapshot_file.proofs.Passing.{Pass, PartPasses, PartsPass, Passes, form_to}
 use Rattle.token_cut.specs.Parts.{PartValues, SnapshotParts}
@@ -154,7 +154,7 @@ length_parts order (starts ∷ shape) [] p = absurd p
 length_parts order (starts ∷ shape) (part ∷ parts) p =
     omega (arith, length-append (part_bytes part) (flat_map part_bytes parts), length_part order starts part p.0, length_parts order shape parts p.1)
 
-pub length_body : (shape : Starts) (slot : ℕ) (snapshot : SnapshotParts) → IsInForm shape slot snapshot → length (body_bytes snapshot) ≡ body_length shape
+pub length_body : (shape : Starts) (slot : ℕ) (snapshot : SnapshotParts) → IsInSlotForm shape slot snapshot → length (body_bytes snapshot) ≡ body_length shape
 length_body shape slot snapshot form =
     let in_form = form_to shape slot snapshot form in
     omega (arith, length-append (big_bytes 8 snapshot.epoch) (flat_map part_bytes snapshot.parts), length_parts shape.order shape.parts snapshot.parts in_form.parts)

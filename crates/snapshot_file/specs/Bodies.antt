@@ -4,7 +4,7 @@ use Rattle.std.specs.List.{flat_map}
 use Rattle.byteorder.specs.Endian.{big_bytes}
 use Rattle.token_cut.specs.declared.phase.Phase.{Phase}
 use Rattle.token_cut.specs.declared.phase.Phase.TheVariants.{Fresh, Rest}
-use Rattle.token_cut.specs.Form.{IsInForm}
+use Rattle.token_cut.specs.Form.{IsInSlotForm}
 use Rattle.token_cut.specs.Parts.{PartValues, SnapshotParts}
 use Rattle.token_cut.specs.Shapes.{Starts}
 
@@ -24,4 +24,4 @@ body_bytes snapshot = big_bytes 8 snapshot.epoch ++ flat_map part_bytes snapshot
 -- the body is that snapshot's, and the slot may hold it
 pub record Form (shape : Starts) (slot : ℕ) (body : List ℕ) (snapshot : SnapshotParts) : Type 0 where
   pub bytes : body ≡ body_bytes snapshot
-  pub in_form : IsInForm shape slot snapshot
+  pub in_form : IsInSlotForm shape slot snapshot

@@ -1,6 +1,6 @@
 ghost use Rattle.std.specs.Prelude.{◌≡◌, ◌≤◌, ◌<◌, ◌^◌, ℕ, length};
 ghost use Rattle.std.specs.List.{AllByRecursion};
-ghost use Rattle.token_cut.specs.Form.{IsInForm};
+ghost use Rattle.token_cut.specs.Form.{IsInSlotForm};
 ghost use Rattle.token_cut.specs.Parts.{SnapshotParts};
 ghost use Rattle.token_cut.specs.Shapes.{IsShape, IsPartShape};
 ghost use Rattle.snapshot_file.specs.Bodies.{body_bytes};
@@ -13,7 +13,7 @@ use token_cut::{Shape, ShapePart};
 pub fn body_len(shape: &Shape) -> u64
     requires { IsShape shape.now }
     ensures length { result ≡ body_length shape.now }
-    ensures bodies { (slot : ℕ) (snapshot : SnapshotParts) → IsInForm shape.now slot snapshot → length (body_bytes snapshot) ≡ result }
+    ensures bodies { (slot : ℕ) (snapshot : SnapshotParts) → IsInSlotForm shape.now slot snapshot → length (body_bytes snapshot) ≡ result }
     ensures small { result < 2 ^ 32 }
 {
     8 + parts_len(&shape.parts)

@@ -1,6 +1,6 @@
 ghost use Rattle.std.specs.Prelude.{◌≡◌, ◌≤◌, ◌+◌, ◌++◌, ℕ, length, Ok, vec_len, vec_capacity};
 ghost use Rattle.byteorder.specs.Endian.{big_bytes};
-ghost use Rattle.token_cut.specs.Form.{IsInForm};
+ghost use Rattle.token_cut.specs.Form.{IsInSlotForm};
 ghost use Rattle.token_cut.specs.Shapes.{Starts};
 ghost use Rattle.snapshot_file.specs.Bodies.{body_bytes, part_bytes, number_bytes};
 ghost use Rattle.snapshot_file.specs.Reading.{decoded};
@@ -16,7 +16,7 @@ pub fn encode(snapshot: &Snapshot, to: &mut Vec<u8>)
     requires room { vec_len to.old + length (body_bytes snapshot.now) ≤ vec_capacity to.old }
     ensures bytes { to.new.items ≡ to.old.items ++ body_bytes snapshot.now }
     ensures capacity { vec_capacity to.new ≡ vec_capacity to.old }
-    ensures reads_back { (shape : Starts) (slot at : ℕ) → IsInForm shape slot snapshot.now → decoded shape slot at (body_bytes snapshot.now) ≡ Ok snapshot.now }
+    ensures reads_back { (shape : Starts) (slot at : ℕ) → IsInSlotForm shape slot snapshot.now → decoded shape slot at (body_bytes snapshot.now) ≡ Ok snapshot.now }
 {
     write_number(snapshot.epoch, to);
     for part in &snapshot.parts {

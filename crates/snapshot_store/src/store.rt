@@ -3,7 +3,7 @@
 ghost use Rattle.std.specs.Prelude.{◌≡◌, ◌⊎◌, ◌+◌, ◌%◌, ◌<◌, ℕ, List, length, IsErrOf, IsTrue, IfOk, IfErr, OnOk, OnErr, Ok, Some};
 ghost use Rattle.grape_port.specs.Ports.{Rose};
 ghost use Rattle.grape_disk.specs.Images.{AtRest, Leaves};
-ghost use Rattle.token_cut.specs.Form.{IsInForm};
+ghost use Rattle.token_cut.specs.Form.{IsInSlotForm};
 ghost use Rattle.token_cut.specs.Shapes.{IsShape};
 ghost use Rattle.snapshot_file.specs.Bodies.{body_bytes};
 ghost use Rattle.snapshot_file.specs.Lengths.{body_length};
@@ -104,7 +104,7 @@ impl Store {
     ) -> Result<(), StoreFault>
         requires shape { IsShape shape.now }
         requires next { snapshot.now.epoch ≡ self.old.last + 1 }
-        requires form { IsInForm shape.now (snapshot.now.epoch % 2) snapshot.now }
+        requires form { IsInSlotForm shape.now (snapshot.now.epoch % 2) snapshot.now }
 
         ensures kept { OnOk result (IsTrue (D.honest disk.old) → (file : List ℕ) → AtRest D.content D.images D.moment disk.old file → IsKept shape.now self.old.digest self.old.last file
             → (new : List ℕ) × AtRest D.content D.images D.moment disk.new new × Takes shape.now self.old.digest snapshot.now new) }
@@ -137,10 +137,10 @@ impl Store {
 
 fn body_of(alloc: Global, shape: &Shape, snapshot: &Snapshot) -> Result<Vec<u8>, NoMemory>
     requires shape { IsShape shape.now }
-    requires form { (slot : ℕ) × IsInForm shape.now slot snapshot.now }
+    requires form { (slot : ℕ) × IsInSlotForm shape.now slot snapshot.now }
     ensures bytes { IfOk result (λ body. body.items ≡ body_bytes snapshot.now) }
     ensures length { IfOk result (λ body. length body.items ≡ body_length shape.now) }
-    ensures reads_back { IfOk result (λ _. (slot at : ℕ) → IsInForm shape.now slot snapshot.now → decoded shape.now slot at (body_bytes snapshot.now) ≡ Ok snapshot.now) }
+    ensures reads_back { IfOk result (λ _. (slot at : ℕ) → IsInSlotForm shape.now slot snapshot.now → decoded shape.now slot at (body_bytes snapshot.now) ≡ Ok snapshot.now) }
 {
     let mut body = Vec::with_capacity(alloc, body_len(shape) as usize)?;
     encode(snapshot, &mut body);

@@ -16,13 +16,13 @@ pub record IsEpoch (slot n : ℕ) : Type 0 where
 
 -- The values of a worker's own vertices and of its mirrors lie below their start values, and are these in a part that has not begun.
 -- The mail of a mirror is NOTHING or lies below its start value. Each number has 64 bits.
-pub record IsPartInForm (order : Order) (starts : PartStarts) (part : PartValues) : Type 0 where
+pub record IsPartInSlotForm (order : Order) (starts : PartStarts) (part : PartValues) : Type 0 where
   pub values : AllZip (Below order) part.values (starts.owned ++ starts.mirrors)
   pub fresh : part.phase ≡ Fresh → part.values ≡ starts.owned ++ starts.mirrors
   pub mail : AllZip (λ x top. (x ≡ NOTHING) ⊎ Below order x top) part.mail starts.mirrors
   pub numbers : AllByRecursion (λ x. x < 2 ^ 64) (part.values ++ part.mail)
 
 -- an epoch of that slot, and a part in the form for each of the shape
-pub record IsInForm (shape : Starts) (slot : ℕ) (snapshot : SnapshotParts) : Type 0 where
+pub record IsInSlotForm (shape : Starts) (slot : ℕ) (snapshot : SnapshotParts) : Type 0 where
   pub epoch : IsEpoch slot snapshot.epoch
-  pub parts : AllZip (IsPartInForm shape.order) shape.parts snapshot.parts
+  pub parts : AllZip (IsPartInSlotForm shape.order) shape.parts snapshot.parts
