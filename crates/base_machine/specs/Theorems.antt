@@ -1,11 +1,13 @@
 -- The theorems on runs of the base machine, as statements.
-use Rattle.std.specs.Prelude.{◌≡◌, ◌≢◌, ℕ, ◌+◌, ◌^◌, ◌<◌, ◌≤◌, false, IsTrue, List, [], length, slice_index}
+use Rattle.std.specs.Prelude.{◌≡◌, ◌≢◌, ℕ, ◌+◌, ◌^◌, ◌<◌, ◌≤◌, false, ◌↔◌, IsTrue, List, [], length, slice_index}
 use Rattle.graph_core.specs.declared.job.Job.{Job}
 use Rattle.graph_core.specs.Graphs.{IsJob}
 use Rattle.graph_core.specs.Equations.{Assignment, AreLawful, IsGreatest}
 use Rattle.graph_core.specs.Fragments.{AreCutOf, IsOwnedAt, piece_at}
 use Rattle.token_cut.specs.Parts.{SnapshotParts}
+use Rattle.token_cut.specs.Form.{IsEpoch, IsInSlotForm}
 use Rattle.base_machine.specs.Machine.{System, system_of, BaseState, BaseEvent, BaseTake, BaseGive, worker_at, is_running, sent_to, base_state_of, fresh_snapshot, snapshot_of, base_after, is_allowed}
+use Rattle.base_machine.specs.Shapes.{system_shape}
 use Rattle.base_machine.specs.Runs.{Runs, takes_in}
 use Rattle.base_machine.specs.Fitness.{is_quiet, IsFit, IsInForm}
 use Rattle.base_machine.specs.Bounds.{bound_of}
@@ -60,6 +62,11 @@ abbrev pub FormIsKept : Type 0
 FormIsKept =
     (sys : System) (start : SnapshotParts) (events : List BaseEvent) (ws : BaseState) (epoch : ℕ) → IsSound sys → IsInForm sys start → epoch < 2 ^ 62 →
     Runs sys (base_state_of start) events ws → IsInForm sys (snapshot_of sys ws epoch)
+
+-- A snapshot may stand in a slot of a state file exactly where its epoch is one of that slot, and it is in the form in which a run may begin.
+abbrev pub SlotsHoldStarts : Type 0
+SlotsHoldStarts =
+    (sys : System) → IsSound sys → (slot : ℕ) (s : SnapshotParts) → IsInSlotForm (system_shape sys) slot s ↔ (IsEpoch slot s.epoch × IsInForm sys s)
 
 -- The snapshot of a fit state in which nobody runs is a fit start.
 abbrev pub SnapshotIsFit : Type 0

@@ -1,4 +1,4 @@
-ghost use Rattle.base_machine.specs.Theorems.{SystemsAreSound, FitIsKept, Confluence, NeighboursSwap, FreshIsFit, RunsAreBounded, FormIsKept, SnapshotIsFit};
+ghost use Rattle.base_machine.specs.Theorems.{SystemsAreSound, FitIsKept, Confluence, NeighboursSwap, FreshIsFit, RunsAreBounded, FormIsKept, SlotsHoldStarts, SnapshotIsFit};
 
 /// The equations of a job are lawful, and its fragments are a proper cut of them.
 pub fn systems_are_sound()
@@ -29,6 +29,11 @@ pub fn runs_are_bounded()
 /// A run keeps the form of its start.
 pub fn form_is_kept()
     ensures { FormIsKept }
+{}
+
+/// A slot of a state file may hold the snapshots in which a run may begin, but for those whose epoch isn't one of that slot.
+pub fn slots_hold_starts()
+    ensures { SlotsHoldStarts }
 {}
 
 /// A fit state in which nobody runs may be resumed from its snapshot.

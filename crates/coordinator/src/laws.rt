@@ -1,6 +1,7 @@
 ghost use Rattle.coordinator.specs.Runs.{DoneIsTheAnswer, DoneIsQuiet};
 ghost use Rattle.coordinator.specs.Shapes.{ShapesBeginRuns, FormsAgree};
 
+use base_machine::{slots_hold_starts, systems_are_sound};
 use legal_journal::{end_is_quiet, journal_runs, journals_grow};
 
 /// The fresh snapshot of a job's shape is the one with which a run of the job begins.
@@ -12,7 +13,10 @@ pub fn shapes_begin_runs()
 /// the form in which a run of the job may begin.
 pub fn forms_agree()
     ensures { FormsAgree }
-{}
+{
+    systems_are_sound();
+    slots_hold_starts();
+}
 
 /// Where a run is done, the values of the owners are the greatest solution of the job's equations, whatever the policy,
 /// the delays and the order of events.
