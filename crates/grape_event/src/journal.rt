@@ -33,16 +33,19 @@ impl Journal {
         }
     }
 
-    /// Makes room for at least `n` more events. Takes no memory where there is that room already, and after `NoMemory`
-    /// all is as before.
+    /// Makes room for at least `n` more events. Where there is that room already, and after `NoMemory`, all is as before,
+    /// the room too.
     pub fn reserve(&mut self, n: u64) -> Result<(), NoMemory>
         ensures events { self.new.events ≡ self.old.events }
         ensures room { OnOk result (n ≤ self.new.spare) }
         ensures kept { self.old.spare ≤ self.new.spare }
         ensures in_room { n ≤ self.old.spare → IsOk result }
+        ensures as_before { n ≤ self.old.spare → self.new ≡ self.old }
         ensures no_memory { OnErr result (self.new ≡ self.old) }
     {
-        self.events.reserve(n as usize)?;
+        if n > self.spare() {
+            self.events.reserve(n as usize)?;
+        }
         Ok(())
     }
 
