@@ -1,7 +1,7 @@
 -- The probe of a journal follows it, and says what the table says.
 use Rattle.std.proofs.Common.{◌≡◌, ℕ, ◌<◌, Bool, true, false, not, ◌&&◌, ◌||◌, ◌==◌, nat_lt, cond, refl, sym, ◌∙◌, ap, subst, arith, List, [], ◌∷◌, ◌++◌, map, length, get_or, set, replicate, get_or-set_same, get_or-set_other, ext_get_or}
 use Rattle.std.specs.List.{list_any, list_all}
-use Rattle.std.proofs.lemmas.Bool.{or_left, eqb-true, eq-eqb, ltb-true, false≢true}
+use Rattle.std.proofs.lemmas.Bool.{and_parts, not-true, or_left, eqb-true, eq-eqb, ltb-true, false≢true}
 use Rattle.std.proofs.lemmas.List.Sums.{take_while-cons}
 use Rattle.std.proofs.lemmas.List.Folds.{list_all-map}
 use Rattle.std.proofs.lemmas.List.FromFn.{get_or-map-range_with_len, length-range_with_len}
@@ -12,10 +12,10 @@ use Rattle.grape_event.specs.declared.event.Event.TheVariants.{Take, Give, Stret
 use Rattle.grape_event.specs.Events.{is_take_of}
 use Rattle.base_machine.specs.Machine.{System, worker_at, rests, batch_waits}
 use Rattle.legal_journal.specs.Past
-use Rattle.legal_journal.specs.Legal.{State, worker_count, rests_without_mail}
+use Rattle.legal_journal.specs.Legal.{State, worker_count, rests_without_mail, is_worker, may_answer, may_ack}
 use Rattle.stop_probe.specs.ProbeValues.{ProbeValues}
 use Rattle.stop_probe.specs.Probe.{is_open, all_of, took_since_ask, has_answered, new_probe, after_flag, after_ask, after_ack, after_nack, after_take}
-use Rattle.stop_probe.specs.Journals.{probe_of, probe_at, after_event, FollowsEvents, MeetsTheTable, AcksFollowNoTake}
+use Rattle.stop_probe.specs.Journals.{probe_of, probe_at, after_event, FollowsEvents, MeetsTheTable, TakesAreSeen, AcksFollowNoTake}
 
 -- ---- a list of bits, one a worker
 
@@ -229,6 +229,41 @@ since_the_ask test (e ∷ after) before h = since test e (after ++ Ask ∷ befor
     go rest true f = absurd (false≢true (sym f))
     go rest false f = ap (λ x. test e || x) (rest f)
 
+pub takes_are_seen : TakesAreSeen
+takes_are_seen n i after before l a =
+    bit_at (λ j. Past.took_since_ask j (after ++ Ask ∷ before)) i n l ∙ since_the_ask (is_take_of i) after before a
+
+-- the events after the last Ask, and those before it
+abbrev AskAt : List Event → Type 0
+AskAt past = (after : List Event) × (before : List Event) × (past ≡ after ++ Ask ∷ before) × (list_any Past.is_ask after ≡ false)
+
+later : (e : Event) (past : List Event) → Past.is_ask e ≡ false → AskAt past → AskAt (e ∷ past)
+later e past a h = (e ∷ h.0, h.1, ap (λ (p : List Event). e ∷ p) h.2, ap (λ b. b || list_any Past.is_ask h.0) a ∙ h.3)
+
+last_ask : (past : List Event) → Past.was_asked past ≡ true → AskAt past
+last_ask [] h = absurd (false≢true h)
+last_ask (Ask ∷ past) h = ([], past, refl, refl)
+last_ask (Take i k ∷ past) h = later (Take i k) past refl (last_ask past h)
+last_ask (Give i ∷ past) h = later (Give i) past refl (last_ask past h)
+last_ask (Stretch i t ∷ past) h = later (Stretch i t) past refl (last_ask past h)
+last_ask (Hold i ∷ past) h = later (Hold i) past refl (last_ask past h)
+last_ask (Flag i ∷ past) h = later (Flag i) past refl (last_ask past h)
+last_ask (Ack i ∷ past) h = later (Ack i) past refl (last_ask past h)
+last_ask (Nack i ∷ past) h = later (Nack i) past refl (last_ask past h)
+last_ask (Begin e ∷ past) h = later (Begin e) past refl (last_ask past h)
+last_ask (Mark i ∷ past) h = later (Mark i) past refl (last_ask past h)
+last_ask (Seal e ∷ past) h = later (Seal e) past refl (last_ask past h)
+last_ask (Kept e ∷ past) h = later (Kept e) past refl (last_ask past h)
+last_ask (End ∷ past) h = later End past refl (last_ask past h)
+last_ask (Stop c ∷ past) h = later (Stop c) past refl (last_ask past h)
+
 pub acks_follow_no_take : AcksFollowNoTake
-acks_follow_no_take n i after before l a t =
-    sym (since_the_ask (is_take_of i) after before a) ∙ (sym (bit_at (λ j. Past.took_since_ask j (after ++ Ask ∷ before)) i n l) ∙ t)
+acks_follow_no_take sys s i h =
+    let n = worker_count s in
+    let row = (and_parts (is_worker s i) (may_ack s i) (and_parts (not (Past.has_ended s.past)) _ h).1).1 in
+    let ack = and_parts (may_answer s i && rests_without_mail s i) (not (Past.took_since_ask i s.past)) row in
+    let may = and_parts (Past.probe_is_open n s.past) (not (Past.has_answered i s.past)) (and_parts (may_answer s i) (rests_without_mail s i) ack.0).0 in
+    let asked = (and_parts (Past.was_asked s.past) (not (Past.nack_since_ask s.past)) (and_parts (Past.was_asked s.past && not (Past.nack_since_ask s.past)) (not (Past.all_have_answered n s.past)) may.0).0).0 in
+    let at = last_ask s.past asked in
+    let idle : Past.took_since_ask i s.past ≡ false = not-true (Past.took_since_ask i s.past) ack.1 in
+    (at.0, at.1, at.2, at.3, sym (since_the_ask (is_take_of i) at.0 at.1 at.3) ∙ (sym (ap (Past.took_since_ask i) at.2) ∙ idle))

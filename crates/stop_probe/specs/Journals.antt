@@ -1,5 +1,5 @@
 -- A probe follows the journal.
-use Rattle.std.specs.Prelude.{◌≡◌, ℕ, ◌<◌, false, not, ◌&&◌, ◌||◌, List, [], ◌∷◌, ◌++◌, map}
+use Rattle.std.specs.Prelude.{◌≡◌, ℕ, ◌<◌, false, not, ◌&&◌, ◌||◌, IsTrue, List, [], ◌∷◌, ◌++◌, map}
 use Rattle.std.specs.List.{list_any}
 use Rattle.graph_core.specs.Fragments.{numbers_below}
 use Rattle.grape_event.specs.declared.event.Event.{Event}
@@ -7,7 +7,7 @@ use Rattle.grape_event.specs.declared.event.Event.TheVariants.{Take, Flag, Ask, 
 use Rattle.grape_event.specs.Events.{is_take_of}
 use Rattle.base_machine.specs.Machine.{System, worker_at, rests, batch_waits}
 use Rattle.legal_journal.specs.Past
-use Rattle.legal_journal.specs.Legal.{State, worker_count, rests_without_mail, row_admits}
+use Rattle.legal_journal.specs.Legal.{State, worker_count, rests_without_mail, row_admits, is_admitted}
 use Rattle.stop_probe.specs.ProbeValues.{ProbeValues}
 use Rattle.stop_probe.specs.Probe.{took_since_ask, may_flag, may_ask, may_answer, may_end, new_probe, after_flag, after_ask, after_ack, after_nack, after_take}
 
@@ -48,8 +48,14 @@ pub record MeetsTheTable (sys : System) (s : State) : Type 0 where
   pub nack : (i : ℕ) → row_admits sys s (Nack i) ≡ (may_answer i (probe_at s) && rests (worker_at s.workers i) && (batch_waits (worker_at s.workers i) || took_since_ask i (probe_at s)))
   pub end : row_admits sys s End ≡ (may_end (probe_at s) && Past.all_begun_are_kept s.past)
 
--- Where the probe says that a worker took nothing since the Ask, no Take of that worker stands between the last Ask and now.
+-- Since the last Ask a probe has seen a Take of a worker exactly where one stands in the journal.
+abbrev pub TakesAreSeen : Type 0
+TakesAreSeen =
+    (n i : ℕ) (after before : List Event) → i < n → list_any Past.is_ask after ≡ false →
+    took_since_ask i (probe_of n (after ++ Ask ∷ before)) ≡ list_any (is_take_of i) after
+
+-- Where the table of events admits an Ack, there was an Ask, and no Take of that worker stands between the last Ask and the Ack.
 abbrev pub AcksFollowNoTake : Type 0
 AcksFollowNoTake =
-    (n i : ℕ) (after before : List Event) → i < n → list_any Past.is_ask after ≡ false →
-    took_since_ask i (probe_of n (after ++ Ask ∷ before)) ≡ false → list_any (is_take_of i) after ≡ false
+    (sys : System) (s : State) (i : ℕ) → IsTrue (is_admitted sys s (Ack i)) →
+    (after : List Event) × (before : List Event) × (s.past ≡ after ++ Ask ∷ before) × (list_any Past.is_ask after ≡ false) × (list_any (is_take_of i) after ≡ false)
