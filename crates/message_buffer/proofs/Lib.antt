@@ -1,2 +1,4 @@
 pub mod Places
+pub mod Meeting
+pub mod Waiting
 pub mod Posting

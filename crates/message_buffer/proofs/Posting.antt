@@ -2,37 +2,15 @@
 use Rattle.std.proofs.Common.{◌≡◌, ℕ, ◌+◌, ◌<◌, Bool, true, false, not, ◌&&◌, if◌then◌else◌, ◌==◌, List, [], ◌∷◌, length, replicate, slice_index, slice_set, ap, sym, ◌∙◌, refl, arith}
 use Rattle.std.proofs.lemmas.List.{length-set, length-replicate, get_or-replicate, get_or-set_same, get_or-set_other}
 use Rattle.std.proofs.lemmas.Bool.{eqb-true, eqb-false}
-use Rattle.std.proofs.lemmas.Nat.{and_comm, and_assoc}
 use Rattle.value_order.specs.declared.order.Order.{Order}
-use Rattle.value_order.specs.declared.order.Order.TheVariants.{Least, Mask}
 use Rattle.value_order.specs.declared.TheConstants.{NOTHING}
 use Rattle.value_order.specs.Order.{meet_of, meet_all}
 use Rattle.message_buffer.specs.BufferValues.{BufferValues}
-use Rattle.message_buffer.specs.Buffers.{new_buffer, with_batch, with_post, folded}
+use Rattle.message_buffer.specs.Buffers.{new_buffer, with_batch, with_post, folded, all_waiting}
+use Rattle.message_buffer.proofs.Meeting.{meet-assoc, meet-turn, meet-nothing, meet-neutral}
 use Rattle.message_buffer.proofs.Places.{meets_of-length, meets_of-at}
-use Rattle.message_buffer.specs.Posted.{Step, Begins, Posts, Folds, after_step, after_steps, same_class, has_fold, values_posted, batches_begun, HasPosted}
-
--- ---- meets
-
-meet-assoc : (o : Order) (a b c : ℕ) → meet_of o (meet_of o a b) c ≡ meet_of o a (meet_of o b c)
-meet-assoc Least a b c = omega arith
-meet-assoc Mask a b c = and_assoc c a b
-
-meet-comm : (o : Order) (a b : ℕ) → meet_of o a b ≡ meet_of o b a
-meet-comm Least a b = omega arith
-meet-comm Mask a b = and_comm a b
-
--- the last of three values comes before the second one
-meet-turn : (o : Order) (a b c : ℕ) → meet_of o (meet_of o a b) c ≡ meet_of o (meet_of o a c) b
-meet-turn o a b c = meet-assoc o a b c ∙ ap (meet_of o a) (meet-comm o b c) ∙ sym (meet-assoc o a c b)
-
-meet-nothing : (o : Order) → meet_of o NOTHING NOTHING ≡ NOTHING
-meet-nothing Least = refl
-meet-nothing Mask = refl
-
--- a value that NOTHING doesn't lower, met with another one
-meet-neutral : (o : Order) (a b : ℕ) → meet_of o a NOTHING ≡ a → meet_of o (meet_of o a b) NOTHING ≡ meet_of o a b
-meet-neutral o a b n = meet-turn o a b NOTHING ∙ ap (λ x. meet_of o x b) n
+use Rattle.message_buffer.proofs.Waiting.{both_met, both_counted, both_waiting}
+use Rattle.message_buffer.specs.Posted.{Step, Begins, Posts, Folds, after_step, after_steps, same_class, has_fold, values_posted, batches_begun, all_values_posted, HasPosted}
 
 -- ---- the order and the lengths
 
@@ -250,16 +228,31 @@ value_is order mirrors steps c m h =
 count_is : (order : Order) (mirrors : ℕ) (steps : List Step) (c : Bool) → count_in c (after_steps (new_buffer order mirrors) steps) ≡ batches_begun c steps
 count_is order mirrors steps c = omega (arith, steps-count c (new_buffer order mirrors) steps, new-count order mirrors c (has_fold steps))
 
+taken_is : (order : Order) (mirrors : ℕ) (steps : List Step) (b : BufferValues) → b.order ≡ order → IsFor mirrors b → ((m : ℕ) → m < mirrors → slice_index b.plain m ≡ meet_all order NOTHING (values_posted false m steps)) → ((m : ℕ) → m < mirrors → slice_index b.tagged m ≡ meet_all order NOTHING (values_posted true m steps)) →
+    (m : ℕ) → m < mirrors → slice_index (all_waiting b) m ≡ meet_all order NOTHING (all_values_posted m steps)
+taken_is order mirrors steps b o f plain tagged m h =
+    meets_of-at b.order b.plain b.tagged m (omega (arith, h, f.plain)) (omega (arith, h, f.tagged))
+    ∙ (λ t. meet_of (o t) (plain m h t) (tagged m h t))
+    ∙ both_met order m steps NOTHING NOTHING
+    ∙ ap (λ x. meet_all order x (all_values_posted m steps)) (meet-nothing order)
+
 pub has_posted : (order : Order) (mirrors : ℕ) (steps : List Step) → HasPosted order mirrors steps (after_steps (new_buffer order mirrors) steps)
 has_posted order mirrors steps =
-    let b = new_buffer order mirrors in
-    let f = steps-mirrors mirrors b steps (new-mirrors order mirrors) in
+    let b = after_steps (new_buffer order mirrors) steps in
+    let f = steps-mirrors mirrors (new_buffer order mirrors) steps (new-mirrors order mirrors) in
+    let o = steps-order (new_buffer order mirrors) steps in
+    let plain = value_is order mirrors steps false in
+    let tagged = value_is order mirrors steps true in
     record {
-      order_is = steps-order b steps;
+      order_is = o;
       plain_mirrors = f.plain;
       tagged_mirrors = f.tagged;
-      plain = value_is order mirrors steps false;
-      tagged = value_is order mirrors steps true;
+      plain = plain;
+      tagged = tagged;
       plain_batches = count_is order mirrors steps false;
       tagged_batches = count_is order mirrors steps true;
+      taken_mirrors = meets_of-length b.order mirrors b.plain b.tagged f.plain f.tagged;
+      taken = taken_is order mirrors steps b o f plain tagged;
+      batches = (λ t. count_is order mirrors steps false t + count_is order mirrors steps true t) ∙ both_counted steps;
+      waiting = λ values. both_waiting order mirrors steps b.plain b.tagged values f.plain f.tagged plain tagged;
     }
