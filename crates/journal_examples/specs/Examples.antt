@@ -1,5 +1,5 @@
 -- Worked journals.
-use Rattle.std.specs.Prelude.{List, [], ◌∷◌}
+use Rattle.std.specs.Prelude.{ℕ, List, [], ◌∷◌}
 use Rattle.value_order.specs.declared.TheConstants.{NOTHING}
 use Rattle.graph_core.specs.declared.settings.Cut.TheVariants.{Range, Hash}
 use Rattle.graph_core.specs.declared.settings.Policy.{Policy}
@@ -9,7 +9,7 @@ use Rattle.graph_core.specs.declared.job.Job.{Job}
 use Rattle.grape_event.specs.declared.event.Event.{Event}
 use Rattle.grape_event.specs.declared.event.Event.TheVariants.{Take, Give, Stretch, Hold, Flag, Ask, Ack, Nack, Begin, Mark, Seal, Kept, End}
 use Rattle.token_cut.specs.Parts.{SnapshotParts}
-use Rattle.base_machine.specs.Machine.{Worker, Rest}
+use Rattle.base_machine.specs.Machine.{Worker, Post, Standing, Rest}
 use Rattle.token_cut.specs.declared.phase.Phase.TheVariants.{Fresh as FreshPhase, Rest as RestPhase}
 
 -- distances from 1 over 1 -5-> 2 -1-> 3, in two ranges
@@ -82,6 +82,28 @@ parts_under policy =
 abbrev pub gone_ahead : List Event
 gone_ahead = Take 1 0 ∷ Give 1 ∷ Take 0 0 ∷ Give 0 ∷ Stretch 1 0 ∷ []
 
+-- two batches wait for worker 0, which rests; they came at the places 3 and 5
+abbrev pub gathered : List Event
+gathered = Take 0 0 ∷ Give 0 ∷ Take 1 0 ∷ Give 1 ∷ Take 2 0 ∷ Give 2 ∷ []
+
+-- mail comes for worker 1 while it runs
+abbrev pub mailed_while_running : List Event
+mailed_while_running = Take 1 0 ∷ Take 0 1 ∷ Give 0 ∷ []
+
+-- worker 0 has answered, and then mail comes for it from worker 1, which took after the Ask
+abbrev pub mailed_after_ack : List Event
+mailed_after_ack =
+    Take 2 0 ∷ Give 2 ∷ Flag 2 ∷ Take 1 0 ∷ Give 1 ∷ Flag 1 ∷ Take 0 0 ∷ Give 0 ∷ Flag 0 ∷ Ask ∷ Ack 0 ∷ Stretch 1 0 ∷ Take 1 0 ∷ Give 1 ∷ []
+
+-- worker 0 rests without mail after one round when the batch of worker 1's second round comes, and one round more follows
+abbrev pub caught_up : List Event
+caught_up =
+    Take 1 0 ∷ Give 1 ∷ Take 0 0 ∷ Give 0 ∷ Stretch 1 0 ∷ Take 1 0 ∷ Give 1 ∷ Stretch 0 0 ∷ Take 0 0 ∷ Give 0 ∷ Take 2 0 ∷ Give 2 ∷ []
+
+-- the same, where mail of worker 2 waits for worker 0 already
+abbrev pub left_behind : List Event
+left_behind = Take 1 0 ∷ Give 1 ∷ Take 0 0 ∷ Give 0 ∷ Take 2 0 ∷ Give 2 ∷ Stretch 1 0 ∷ Take 1 0 ∷ Give 1 ∷ []
+
 -- two workers in turn, and a probe
 abbrev pub in_turn : List Event
 in_turn = Take 0 0 ∷ Give 0 ∷ Take 1 0 ∷ Give 1 ∷ Flag 0 ∷ Flag 1 ∷ Ask ∷ Ack 0 ∷ Ack 1 ∷ End ∷ []
@@ -114,9 +136,23 @@ alone =
 abbrev pub kept_and_ended : List Event
 kept_and_ended = Take 0 0 ∷ Give 0 ∷ Begin 1 ∷ Mark 0 ∷ Seal 1 ∷ Kept 1 ∷ Flag 0 ∷ Ask ∷ Ack 0 ∷ End ∷ []
 
+-- it begins again from an epoch, or where its worker rests
+abbrev pub alone_from : ℕ → SnapshotParts
+alone_from epoch = record { epoch = epoch; parts = record { phase = FreshPhase; values = 0 ∷ []; mail = [] } ∷ [] }
+
+abbrev pub alone_at_rest : SnapshotParts
+alone_at_rest = record { epoch = 1; parts = record { phase = RestPhase; values = 0 ∷ []; mail = [] } ∷ [] }
+
 -- the worker of vertices 3 and 2 at the end
 abbrev pub three_and_two : Worker
 three_and_two = record { standing = Rest; values = 6 ∷ 5 ∷ []; gives = 1; start_posts = []; mail = [] ∷ [] ∷ [] }
+
+-- workers of each standing, and one that rests with mail
+abbrev pub a_worker : Standing → List Post → Worker
+a_worker standing posts = record { standing = standing; values = []; gives = 1; start_posts = posts; mail = [] }
+
+abbrev pub some_mail : List Post
+some_mail = record { mirror = 0; value = 1 } ∷ []
 
 -- no fragment at all
 abbrev pub no_fragments : Job

@@ -4,10 +4,15 @@
 //! have empty bodies: each carries what the definitions compute.
 #![tactic(auto)]
 
+mod table;
 mod worked;
 
+pub use table::{
+    acks_are_refused, begins_are_refused, busy_workers_are_waited_for, ends_are_refused,
+    flags_are_refused, gives_are_refused, holds_are_refused, nacks_are_refused, rounds_and_arrivals,
+    rounds_are_compared, stretches_are_refused, takes_are_refused,
+};
 pub use worked::{
-    asked_twice_is_legal, bounds_by_formula, choices_in_order, cut_by_marks, events_are_refused,
-    in_turn_is_legal, kept_is_legal, late_mail_is_sealed, nobody_is_asked, rounds_are_compared,
-    stretch_runs_out, stretches_by_formula, takes_are_refused,
+    asked_twice_is_legal, bounds_by_formula, choices_in_order, cut_by_marks, in_turn_is_legal,
+    kept_is_legal, late_mail_is_sealed, nobody_is_asked, stretch_runs_out, stretches_by_formula,
 };

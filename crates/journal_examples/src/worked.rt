@@ -41,51 +41,6 @@ pub fn stretch_runs_out()
     ensures no_take { admits backwards (take 7 stretched ++ Take 0 0 ∷ []) ≡ false }
 {}
 
-/// Takes that lack one condition each, beside some that lack none.
-pub fn takes_are_refused()
-    ensures no_such_worker { admits two_ranges (Take 2 0 ∷ []) ≡ false }
-    ensures no_such_lane { admits two_ranges (Take 0 1 ∷ []) ≡ false }
-    ensures running { admits three_parts (Take 0 0 ∷ Take 0 1 ∷ []) ≡ false }
-    ensures lane_is_busy { admits three_parts (Take 0 0 ∷ Take 1 0 ∷ []) ≡ false }
-    ensures other_lane { admits three_parts (Take 0 0 ∷ Take 1 1 ∷ []) ≡ true }
-    ensures snapshot_is_due { admits three_parts (Take 0 0 ∷ Take 1 1 ∷ Give 1 ∷ Take 2 1 ∷ []) ≡ false }
-    ensures no_mail { admits two_ranges (Take 1 0 ∷ Give 1 ∷ Take 1 0 ∷ []) ≡ false }
-    ensures no_stretch { admits two_ranges (before_first_answer ++ Take 1 0 ∷ []) ≡ false }
-    ensures tagged { admits three_parts (tagged_waits ++ Take 1 0 ∷ []) ≡ false }
-    ensures marked { admits three_parts (tagged_waits ++ Mark 1 ∷ Take 1 0 ∷ []) ≡ true }
-{}
-
-/// A worker that is a round ahead of another one may take under each policy but the strictest.
-pub fn rounds_are_compared()
-    ensures bsp { admits (parts_under Bsp) (gone_ahead ++ Take 1 0 ∷ []) ≡ false }
-    ensures ssp { admits (parts_under (Ssp 1)) (gone_ahead ++ Take 1 0 ∷ []) ≡ true }
-    ensures aap { admits (parts_under (Aap 0 2)) (gone_ahead ++ Take 1 0 ∷ []) ≡ false }
-    ensures ap { admits (parts_under Ap) (gone_ahead ++ Take 1 0 ∷ []) ≡ true }
-    ensures enough_mail { admits (parts_under (Aap 1 1)) (take 4 gone_ahead ++ Take 1 0 ∷ []) ≡ true }
-{}
-
-/// Other events that lack one condition each.
-pub fn events_are_refused()
-    ensures no_probe { admits two_ranges (take 6 in_turn ++ End ∷ []) ≡ false }
-    ensures flag_down { admits two_ranges (take 5 in_turn ++ Ask ∷ []) ≡ false }
-    ensures asked_already { admits two_ranges (take 7 in_turn ++ Ask ∷ []) ≡ false }
-    ensures answered_already { admits two_ranges (take 8 in_turn ++ Ack 0 ∷ []) ≡ false }
-    ensures answer_missing { admits two_ranges (take 8 in_turn ++ End ∷ []) ≡ false }
-    ensures given_already { admits two_ranges (Take 0 0 ∷ Give 0 ∷ Give 0 ∷ []) ≡ false }
-    ensures many_turns { admits two_ranges (before_first_answer ++ Stretch 1 64 ∷ []) ≡ true }
-    ensures too_many_turns { admits two_ranges (before_first_answer ++ Stretch 1 65 ∷ []) ≡ false }
-    ensures second_stretch { admits two_ranges (before_first_answer ++ Stretch 1 2 ∷ Stretch 1 2 ∷ []) ≡ false }
-    ensures not_due { admits three_parts (take 2 late_and_tagged ++ Begin 1 ∷ []) ≡ false }
-    ensures other_epoch { admits three_parts (take 3 late_and_tagged ++ Begin 2 ∷ []) ≡ false }
-    ensures marked_already { admits three_parts (take 5 late_and_tagged ++ Mark 0 ∷ []) ≡ false }
-    ensures marked_running { admits three_parts (take 5 late_and_tagged ++ Mark 2 ∷ []) ≡ false }
-    ensures sealed_early { admits three_parts (take 9 late_and_tagged ++ Seal 1 ∷ []) ≡ false }
-    ensures kept_unsealed { admits three_parts (take 10 late_and_tagged ++ Kept 1 ∷ []) ≡ false }
-    ensures kept_already { admits alone (take 6 kept_and_ended ++ Kept 1 ∷ []) ≡ false }
-    ensures stopped { admits three_parts (take 5 late_and_tagged ++ Stop Memory ∷ []) ≡ true }
-    ensures ended { admits two_ranges (in_turn ++ Stop Memory ∷ []) ≡ false }
-{}
-
 /// A snapshot is kept before the end.
 pub fn kept_is_legal()
     ensures legal { IsLegalRun alone kept_and_ended }
@@ -99,6 +54,8 @@ pub fn stretches_by_formula()
     ensures capped { stretch_turns (Aap 4 2) 1 (100 ∷ 0 ∷ []) ≡ 64 }
     ensures one_arrival { stretch_turns (Aap 4 2) 1 (100 ∷ []) ≡ 0 }
     ensures other_policy { stretch_turns Bsp 1 (100 ∷ 0 ∷ []) ≡ 0 }
+    ensures rounded_down { stretch_turns (Aap 4 2) 1 (11 ∷ 4 ∷ 0 ∷ []) ≡ 5 }
+    ensures last_eight { stretch_turns (Aap 4 2) 1 (90 ∷ 80 ∷ 70 ∷ 60 ∷ 50 ∷ 40 ∷ 30 ∷ 20 ∷ 0 ∷ []) ≡ 10 }
 {}
 
 /// The bound on Takes of two small jobs.
