@@ -12,6 +12,7 @@ use Rattle.graph_core.proofs.Cutting.{stands_left, stands_right}
 use Rattle.base_machine.specs.Machine.{System, BaseState, Worker, worker_at, no_worker, pending_posts, posts_from, values_for, worker_of, base_state_of, fresh_part, fresh_snapshot}
 use Rattle.base_machine.specs.Fitness.{IsFit, IsFitWorker, IsBetween, known_at}
 use Rattle.base_machine.specs.Theorems.{IsSound, FreshIsFit}
+use Rattle.base_machine.proofs.Meets.{stands_in_range}
 use Rattle.base_machine.proofs.Giving.{neutral}
 use Rattle.base_machine.proofs.Posts.{no_queued}
 
@@ -42,9 +43,6 @@ module _ (sys : System) (g : Assignment) (sound : IsSound sys) (greatest : IsGre
       get_or-map (worker_of count) (fresh_snapshot sys).parts i (fresh_part sys.equations no_piece) no_worker (omega (arith, l, h))
       ∙ ap (worker_of count) (get_or-map (fresh_part sys.equations) sys.pieces i no_piece (fresh_part sys.equations no_piece) h)
 
-  in_range : (i p v : ℕ) → i < length sys.pieces → StandsAt (places (piece_at sys.pieces i)) p v → v < sys.equations.count
-  in_range i p v h k = let P : ℕ → Type 0 = λ n. n < sys.equations.count in subst P k.1 (sound.cut.in_range i p h k.0)
-
   start_at : (i p v : ℕ) → StandsAt (places (piece_at sys.pieces i)) p v → slice_index (beginner i).values p ≡ sys.equations.start v
   start_at i p v k = get_or-map sys.equations.start (places (piece_at sys.pieces i)) p 0 0 k.0 ∙ ap sys.equations.start k.1
 
@@ -61,7 +59,7 @@ module _ (sys : System) (g : Assignment) (sound : IsSound sys) (greatest : IsGre
           posts = subst (AllByRecursion (λ p. p.mirror < length piece.mirrors)) (sym none) tt;
         };
         values = λ p v k.
-            let v_in = in_range i p v h k in
+            let v_in = stands_in_range sys sound i p v h k in
             subst (IsBetween sys g v) (sym (start_at i p v k)) (greatest.below_start v v_in, Below-refl o (sys.equations.start v));
         held = λ m v k. inl refl;
         pending = subst (AllByRecursion (λ p. (v : ℕ) → StandsAt piece.mirrors p.mirror v → IsBetween sys g v p.value)) (sym none) tt;
@@ -69,7 +67,7 @@ module _ (sys : System) (g : Assignment) (sound : IsSound sys) (greatest : IsGre
         mirrors = λ m j p v k own.
             let stands = stands_right piece.owned piece.mirrors m v k in
             let a = slice_index (beginner i).values (length piece.owned + m) in
-            let small : Below o a NOTHING = subst (λ x. Below o x NOTHING) (sym (start_at i (length piece.owned + m) v stands)) (sound.lawful.start_is_value v (in_range i (length piece.owned + m) v h stands)) in
+            let small : Below o a NOTHING = subst (λ x. Below o x NOTHING) (sym (start_at i (length piece.owned + m) v stands)) (sound.lawful.start_is_value v (stands_in_range sys sound i (length piece.owned + m) v h stands)) in
             let known : known_at sys piece (beginner i) m ≡ meet_of o a NOTHING = ap (λ l. meet_all o a (NOTHING ∷ values_for m l)) none in
             let there : slice_index (worker_at ws j).values p ≡ sys.equations.start v =
             ap (λ (w : Worker). slice_index w.values p) (at j own.0) ∙ start_at j p v (stands_left (piece_at sys.pieces j).owned (piece_at sys.pieces j).mirrors p v own.1) in

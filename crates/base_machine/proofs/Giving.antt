@@ -14,7 +14,7 @@ use Rattle.pie_core.proofs.Existence.{local_solution-computed}
 use Rattle.base_machine.specs.Machine.{System, BaseState, Worker, hand_of, pending_posts, values_for, values_given, after_giving}
 use Rattle.base_machine.specs.Fitness.{IsFitWorker, IsBetween, known_at}
 use Rattle.base_machine.specs.Theorems.{IsSound}
-use Rattle.base_machine.proofs.Meets.{meet_all-same, value_at-place}
+use Rattle.base_machine.proofs.Meets.{meet_all-same, value_at-place, stands_in_range}
 
 -- ---- lists, place by place
 
@@ -75,7 +75,7 @@ module _ (sys : System) (g : Assignment) (sound : IsSound sys) (greatest : IsGre
   ys = values_given sys piece w
 
   in_range : (p v : ℕ) → StandsAt (places piece) p v → v < sys.equations.count
-  in_range p v k = let P : ℕ → Type 0 = λ n. n < sys.equations.count in subst P k.1 (sound.cut.in_range i p i_in k.0)
+  in_range p v k = stands_in_range sys sound i p v i_in k
 
   small : (p v : ℕ) → StandsAt (places piece) p v → Below o (slice_index w.values p) NOTHING
   small p v k = Below-trans o (slice_index w.values p) (sys.equations.start v) NOTHING (fit.values p v k).1 (sound.lawful.start_is_value v (in_range p v k))

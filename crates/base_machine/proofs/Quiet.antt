@@ -14,7 +14,7 @@ use Rattle.base_machine.specs.Machine.{System, BaseState, BaseEvent, Worker, Bat
 use Rattle.base_machine.specs.Runs.{Runs}
 use Rattle.base_machine.specs.Fitness.{IsFit, IsBetween, is_quiet, known_at}
 use Rattle.base_machine.specs.Theorems.{IsSound, FitIsKept, Confluence}
-use Rattle.base_machine.proofs.Meets.{value_at-place}
+use Rattle.base_machine.proofs.Meets.{value_at-place, stands_in_range}
 
 -- the state after a run is fit, where each event keeps it so
 pub fit_after : FitIsKept → (sys : System) (g : Assignment) → IsSound sys → IsGreatest sys.equations g → (events : List BaseEvent) (ws ws' : BaseState) → IsFit sys g ws → Runs sys ws events ws' → IsFit sys g ws'
@@ -59,11 +59,8 @@ module _ (sys : System) (g : Assignment) (sound : IsSound sys) (greatest : IsGre
   owner_value : Assignment
   owner_value v = elim (dec_lt v sys.equations.count) [ yes h ↦ slice_index (worker_at ws (sound.cut.owned v h).0).values (sound.cut.owned v h).1 | no h ↦ 0 ]
 
-  in_range : (i p v : ℕ) → i < length sys.pieces → StandsAt (places (piece_at sys.pieces i)) p v → v < sys.equations.count
-  in_range i p v h k = let P : ℕ → Type 0 = λ n. n < sys.equations.count in subst P k.1 (sound.cut.in_range i p h k.0)
-
   owned_in_range : (i p v : ℕ) → IsOwnedAt sys.pieces i p v → v < sys.equations.count
-  owned_in_range i p v h = in_range i p v h.0 (stands_left (piece_at sys.pieces i).owned (piece_at sys.pieces i).mirrors p v h.1)
+  owned_in_range i p v h = stands_in_range sys sound i p v h.0 (stands_left (piece_at sys.pieces i).owned (piece_at sys.pieces i).mirrors p v h.1)
 
   owner_value-is : (i p v : ℕ) → IsOwnedAt sys.pieces i p v → owner_value v ≡ slice_index (worker_at ws i).values p
   unfolding owner_value
@@ -83,7 +80,7 @@ module _ (sys : System) (g : Assignment) (sound : IsSound sys) (greatest : IsGre
   is_value : (i q u : ℕ) → i < length sys.pieces → StandsAt (places (piece_at sys.pieces i)) q u → Below sys.equations.order (slice_index (worker_at ws i).values q) NOTHING
   is_value i q u h k =
       Below-trans sys.equations.order (slice_index (worker_at ws i).values q) (sys.equations.start u) NOTHING
-      ((fit.each i (worker_in_range i h)).values q u k).1 (sound.lawful.start_is_value u (in_range i q u h k))
+      ((fit.each i (worker_in_range i h)).values q u k).1 (sound.lawful.start_is_value u (stands_in_range sys sound i q u h k))
 
   nothing_more : (w : Worker) (piece : Piece) (m : ℕ) → IsIdle w → Below sys.equations.order (slice_index w.values (length piece.owned + m)) NOTHING →
       known_at sys piece w m ≡ slice_index w.values (length piece.owned + m)
@@ -101,7 +98,7 @@ module _ (sys : System) (g : Assignment) (sound : IsSound sys) (greatest : IsGre
           slice_index (worker_at ws i).values q ≡ owner_value u
       go (inl l) = sym (owner_value-is i q u (h, l))
       go (inr r) =
-          let o = sound.cut.owned u (in_range i q u h k) in
+          let o = sound.cut.owned u (stands_in_range sys sound i q u h k) in
           let w = worker_at ws i in
           let at_mirror = ap (λ n. slice_index w.values n) r.1 in
           let seen = nothing_more w (piece_at sys.pieces i) r.0 (idle_at ws i quiet (worker_in_range i h))

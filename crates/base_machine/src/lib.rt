@@ -8,6 +8,6 @@
 mod laws;
 
 pub use laws::{
-    confluence, form_is_kept, fresh_is_fit, neighbours_swap, runs_are_bounded, slots_hold_starts, snapshot_is_fit,
-    systems_are_sound,
+    confluence, form_is_kept, fresh_is_fit, neighbours_swap, runs_are_bounded, slots_hold_starts,
+    snapshot_is_fit, systems_are_sound,
 };

@@ -105,8 +105,8 @@ abbrev pub left_behind : List Event
 left_behind = Take 1 0 ∷ Give 1 ∷ Take 0 0 ∷ Give 0 ∷ Take 2 0 ∷ Give 2 ∷ Stretch 1 0 ∷ Take 1 0 ∷ Give 1 ∷ []
 
 -- two workers in turn, and a probe
-abbrev pub in_turn : List Event
-in_turn = Take 0 0 ∷ Give 0 ∷ Take 1 0 ∷ Give 1 ∷ Flag 0 ∷ Flag 1 ∷ Ask ∷ Ack 0 ∷ Ack 1 ∷ End ∷ []
+abbrev pub turn_by_turn : List Event
+turn_by_turn = Take 0 0 ∷ Give 0 ∷ Take 1 0 ∷ Give 1 ∷ Flag 0 ∷ Flag 1 ∷ Ask ∷ Ack 0 ∷ Ack 1 ∷ End ∷ []
 
 -- distances from 3, where vertex 2 is alone
 abbrev pub backwards : Job

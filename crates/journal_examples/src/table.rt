@@ -5,7 +5,7 @@ ghost use Rattle.grape_event.specs.declared.event.StopCause.TheVariants.{Memory}
 ghost use Rattle.base_machine.specs.Machine.{Fresh, Running, Rest};
 ghost use Rattle.legal_journal.specs.Delays.{is_fresh_enough};
 ghost use Rattle.journal_examples.specs.FromFresh.{admits, admits_from, admits_in, written, standing_so, state_after_run};
-ghost use Rattle.journal_examples.specs.Examples.{two_ranges, asked_twice, before_first_answer, served_after_ask, three_parts, late_and_tagged, tagged_waits, parts_under, gone_ahead, gathered, mailed_while_running, mailed_after_ack, caught_up, left_behind, in_turn, backwards, stretched, alone, kept_and_ended, alone_from, alone_at_rest, a_worker, some_mail};
+ghost use Rattle.journal_examples.specs.Examples.{two_ranges, asked_twice, before_first_answer, served_after_ask, three_parts, late_and_tagged, tagged_waits, parts_under, gone_ahead, gathered, mailed_while_running, mailed_after_ack, caught_up, left_behind, turn_by_turn, backwards, stretched, alone, kept_and_ended, alone_from, alone_at_rest, a_worker, some_mail};
 
 /// Takes that fail on one condition each, beside some that are admitted. That no mail waits fails alone only where a Stretch
 /// was written without it.
@@ -102,28 +102,28 @@ pub fn flags_are_refused()
     ensures running { admits two_ranges (Take 0 0 ∷ Flag 0 ∷ []) ≡ false }
     ensures rests { admits two_ranges (Take 0 0 ∷ Give 0 ∷ Flag 0 ∷ []) ≡ true }
     ensures with_mail { admits two_ranges (Take 1 0 ∷ Give 1 ∷ Take 0 0 ∷ Give 0 ∷ Flag 1 ∷ []) ≡ false }
-    ensures twice { admits two_ranges (take 5 in_turn ++ Flag 0 ∷ []) ≡ false }
+    ensures twice { admits two_ranges (take 5 turn_by_turn ++ Flag 0 ∷ []) ≡ false }
     ensures after_a_take { admits two_ranges (before_first_answer ++ Stretch 1 0 ∷ Take 1 0 ∷ Give 1 ∷ Flag 1 ∷ []) ≡ true }
-    ensures flag_down { admits two_ranges (take 5 in_turn ++ Ask ∷ []) ≡ false }
-    ensures flags_up { admits two_ranges (take 6 in_turn ++ Ask ∷ []) ≡ true }
+    ensures flag_down { admits two_ranges (take 5 turn_by_turn ++ Ask ∷ []) ≡ false }
+    ensures flags_up { admits two_ranges (take 6 turn_by_turn ++ Ask ∷ []) ≡ true }
     ensures flag_fell { admits two_ranges (take 9 asked_twice ++ Ask ∷ []) ≡ false }
-    ensures asked_already { admits two_ranges (take 7 in_turn ++ Ask ∷ []) ≡ false }
-    ensures answered_already { admits two_ranges (take 9 in_turn ++ Ask ∷ []) ≡ false }
+    ensures asked_already { admits two_ranges (take 7 turn_by_turn ++ Ask ∷ []) ≡ false }
+    ensures answered_already { admits two_ranges (take 9 turn_by_turn ++ Ask ∷ []) ≡ false }
     ensures asked_again { admits two_ranges (take 13 asked_twice ++ Ask ∷ []) ≡ true }
 {}
 
 /// Acks that fail on one condition each, beside some that are admitted. That a worker doesn't rest fails alone only where
 /// it runs without a Take.
 pub fn acks_are_refused()
-    ensures no_such_worker { admits two_ranges (take 7 in_turn ++ Ack 2 ∷ []) ≡ false }
+    ensures no_such_worker { admits two_ranges (take 7 turn_by_turn ++ Ack 2 ∷ []) ≡ false }
     ensures no_probe { admits_from alone alone_at_rest (Flag 0 ∷ Ack 0 ∷ []) ≡ false }
     ensures probe { admits_from alone alone_at_rest (Flag 0 ∷ Ask ∷ Ack 0 ∷ []) ≡ true }
     ensures closed_by_a_nack { admits two_ranges (take 7 asked_twice ++ Nack 1 ∷ Ack 0 ∷ []) ≡ false }
-    ensures twice { admits two_ranges (take 8 in_turn ++ Ack 0 ∷ []) ≡ false }
+    ensures twice { admits two_ranges (take 8 turn_by_turn ++ Ack 0 ∷ []) ≡ false }
     ensures with_mail { admits two_ranges (before_first_answer ++ Ack 1 ∷ []) ≡ false }
     ensures taken_since { admits two_ranges (served_after_ask ++ Ack 1 ∷ []) ≡ false }
-    ensures running { admits_in two_ranges (standing_so 1 (Running []) (state_after_run two_ranges (take 8 in_turn))) (Ack 1) ≡ false }
-    ensures rests { admits_in two_ranges (state_after_run two_ranges (take 8 in_turn)) (Ack 1) ≡ true }
+    ensures running { admits_in two_ranges (standing_so 1 (Running []) (state_after_run two_ranges (take 8 turn_by_turn))) (Ack 1) ≡ false }
+    ensures rests { admits_in two_ranges (state_after_run two_ranges (take 8 turn_by_turn)) (Ack 1) ≡ true }
 {}
 
 /// Nacks that fail on one condition each, beside some that are admitted.
@@ -135,7 +135,7 @@ pub fn nacks_are_refused()
     ensures answered_already { admits (parts_under Ap) (mailed_after_ack ++ Nack 0 ∷ []) ≡ false }
     ensures taken_since { admits (parts_under Ap) (mailed_after_ack ++ Nack 1 ∷ []) ≡ true }
     ensures running { admits two_ranges (take 10 served_after_ask ++ Nack 1 ∷ []) ≡ false }
-    ensures calm { admits two_ranges (take 7 in_turn ++ Nack 0 ∷ []) ≡ false }
+    ensures calm { admits two_ranges (take 7 turn_by_turn ++ Nack 0 ∷ []) ≡ false }
 {}
 
 /// Begins and Marks that fail on one condition each, beside some that are admitted.
@@ -166,10 +166,10 @@ pub fn ends_are_refused()
     ensures kept { admits three_parts (late_and_tagged ++ Kept 1 ∷ []) ≡ true }
     ensures kept_as_another { admits three_parts (late_and_tagged ++ Kept 2 ∷ []) ≡ false }
     ensures kept_already { admits alone (take 6 kept_and_ended ++ Kept 1 ∷ []) ≡ false }
-    ensures no_probe { admits two_ranges (take 6 in_turn ++ End ∷ []) ≡ false }
-    ensures answer_missing { admits two_ranges (take 8 in_turn ++ End ∷ []) ≡ false }
+    ensures no_probe { admits two_ranges (take 6 turn_by_turn ++ End ∷ []) ≡ false }
+    ensures answer_missing { admits two_ranges (take 8 turn_by_turn ++ End ∷ []) ≡ false }
     ensures old_answer { admits two_ranges (take 14 asked_twice ++ Ack 1 ∷ End ∷ []) ≡ false }
     ensures stopped { admits three_parts (take 5 late_and_tagged ++ Stop Memory ∷ []) ≡ true }
-    ensures after_an_end { admits two_ranges (in_turn ++ Stop Memory ∷ []) ≡ false }
+    ensures after_an_end { admits two_ranges (turn_by_turn ++ Stop Memory ∷ []) ≡ false }
     ensures after_a_stop { admits two_ranges (Stop Memory ∷ Take 0 0 ∷ []) ≡ false }
 {}

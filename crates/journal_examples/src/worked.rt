@@ -10,7 +10,7 @@ ghost use Rattle.legal_journal.specs.Choices.{next_choice, duty_choice};
 ghost use Rattle.legal_journal.specs.Cuts.{sealed_snapshot, cut_of, after_cut};
 ghost use Rattle.legal_journal.specs.Delays.{stretch_turns};
 ghost use Rattle.journal_examples.specs.FromFresh.{beginning, admits, IsLegalRun, state_after_run};
-ghost use Rattle.journal_examples.specs.Examples.{two_ranges, asked_twice, before_first_answer, served_after_ask, three_parts, late_and_tagged, late_and_tagged_snapshot, tagged_waits, parts_under, gone_ahead, in_turn, backwards, stretched, alone, kept_and_ended, three_and_two, no_fragments, asked_nobody};
+ghost use Rattle.journal_examples.specs.Examples.{two_ranges, asked_twice, before_first_answer, served_after_ask, three_parts, late_and_tagged, late_and_tagged_snapshot, tagged_waits, parts_under, gone_ahead, turn_by_turn, backwards, stretched, alone, kept_and_ended, three_and_two, no_fragments, asked_nobody};
 
 /// A run whose second worker finds its mail only after a first probe was asked.
 pub fn asked_twice_is_legal()
@@ -29,9 +29,9 @@ pub fn late_mail_is_sealed()
 {}
 
 /// A run of two workers in turn.
-pub fn in_turn_is_legal()
-    ensures legal { IsLegalRun two_ranges in_turn }
-    ensures values { worker_at (state_after_run two_ranges in_turn).workers 1 ≡ three_and_two }
+pub fn turn_by_turn_is_legal()
+    ensures legal { IsLegalRun two_ranges turn_by_turn }
+    ensures values { worker_at (state_after_run two_ranges turn_by_turn).workers 1 ≡ three_and_two }
 {}
 
 /// A delay of three turns is over after three events.

@@ -3,7 +3,7 @@ use Rattle.std.proofs.Common.{◌≡◌, ℕ, suc, ◌+◌, ◌<◌, ◌≤◌, 
 use Rattle.std.specs.List.{range_with_len}
 use Rattle.std.proofs.lemmas.Nat.{and_le_l, and_le_r}
 use Rattle.std.proofs.lemmas.List.Sums.{sum_by-cons}
-use Rattle.std.proofs.lemmas.Bool.{eq-eqb, ne_eqb}
+use Rattle.std.proofs.lemmas.Bool.{and_right, eq-eqb, ne_eqb}
 use Rattle.value_order.specs.declared.order.Order.{Order}
 use Rattle.value_order.specs.declared.order.Order.TheVariants.{Least, Mask}
 use Rattle.value_order.specs.declared.TheConstants.{NOTHING}
@@ -77,10 +77,6 @@ known o m (Posts tagged k v ∷ later) h =
     post_known o (tagged && not (has_fold later)) (k == m) (is_posted_to later m) v (values_posted false m later) (values_posted true m later) h.0 (known o m later h.1)
 known o m (Folds ∷ later) h = known o m later h
 
-and_false : (b : Bool) → (b && false) ≡ false
-and_false true = refl
-and_false false = refl
-
 none_waits : (o : Order) (p : Bool) (xs ys : List ℕ) → AreKnown o p xs ys → ((meet_all o NOTHING xs == NOTHING) && (meet_all o NOTHING ys == NOTHING)) ≡ not p
 none_waits o false xs ys k =
     (λ t. (meet_all o NOTHING (k.0 t) == NOTHING) && (meet_all o NOTHING (k.1 t) == NOTHING)) ∙ ap (λ b. b && b) (eq-eqb NOTHING NOTHING refl)
@@ -88,8 +84,7 @@ none_waits o true xs ys k = go (k NOTHING)
   where
     go : (meet_all o NOTHING xs < NOTHING) ⊎ (meet_all o NOTHING ys < NOTHING) → ((meet_all o NOTHING xs == NOTHING) && (meet_all o NOTHING ys == NOTHING)) ≡ false
     go (inl h) = ap (λ b. b && (meet_all o NOTHING ys == NOTHING)) (ne_eqb (meet_all o NOTHING xs) NOTHING (λ e. omega (arith, h, e)))
-    go (inr h) =
-        ap (λ b. (meet_all o NOTHING xs == NOTHING) && b) (ne_eqb (meet_all o NOTHING ys) NOTHING (λ e. omega (arith, h, e))) ∙ and_false (meet_all o NOTHING xs == NOTHING)
+    go (inr h) = and_right (meet_all o NOTHING xs == NOTHING) _ (ne_eqb (meet_all o NOTHING ys) NOTHING (λ e. omega (arith, h, e)))
 
 abbrev one_if_not : Bool → ℕ
 one_if_not b = if b then 0 else 1

@@ -7,7 +7,8 @@
 //! A [`CutState`] records a snapshot while the workers go on. Each worker is marked once, with its phase, its values and
 //! its mail. From then on what it sends is tagged, so that what comes without a tag to a marked worker was sent before the
 //! cut: it is late, and lowers the mail that is recorded. The crate promises that a sealed snapshot is exactly what was
-//! marked, with the mail of each mirror met with all late values for it, and that recording takes no memory.
+//! marked, with the mail of each mirror met with all late values for it. What is recorded is written into lists that were made
+//! with the recording, so none of its calls but the first can fail.
 #![tactic(auto)]
 
 mod cut_state;
