@@ -37,6 +37,8 @@ pub(crate) fn close_file<D: Disk>(disk: &mut D) -> Result<(), Failed>
         → Leaves D.images D.moment disk.old disk.new (ClosesFile file) }
     ensures cause { OnErr result (Rose (D.faults disk.old) (D.faults disk.new)) }
     ensures no_fault { OnOk result (D.faults disk.new ≡ D.faults disk.old) }
+    ensures later { D.moment disk.old ≤ D.moment disk.new }
+    ensures moved { OnOk result (D.moment disk.old < D.moment disk.new) }
     ensures honest { D.honest disk.new ≡ D.honest disk.old }
 {
     close_gate(disk, 0)?;
@@ -65,6 +67,8 @@ pub(crate) fn write_blank<D: Disk>(
         → Leaves D.images D.moment disk.old disk.new (KeepsGate file (end + 1)) }
     ensures cause { OnErr result (Rose (D.faults disk.old) (D.faults disk.new)) }
     ensures no_fault { OnOk result (D.faults disk.new ≡ D.faults disk.old) }
+    ensures later { D.moment disk.old ≤ D.moment disk.new }
+    ensures moved { OnOk result (D.moment disk.old < D.moment disk.new) }
     ensures honest { D.honest disk.new ≡ D.honest disk.old }
 {
     disk.write_at(1, front)?;

@@ -2,7 +2,7 @@ ghost use Rattle.std.specs.Prelude.{◌≡◌, ◌≢◌, ◌⊎◌, ◌≤◌, 
 ghost use Rattle.grape_port.specs.Ports.{Rose};
 ghost use Rattle.grape_disk.specs.Images.{AtRest, Same, Leaves};
 ghost use Rattle.token_cut.specs.Shapes.{IsShape};
-ghost use Rattle.snapshot_store.specs.Opening.{OpensAs, NamesBoth};
+ghost use Rattle.snapshot_store.specs.Opening.{OpensAs, NamesBoth, IsFormed};
 ghost use Rattle.snapshot_store.specs.declared.fault.StoreFault.TheVariants.{Disk as DiskFault};
 
 use crate::fault::StoreFault;
@@ -33,11 +33,13 @@ impl Store {
         // Where the disk tells no content, the answer is that of some bytes.
         ensures read { (bytes : List ℕ) × OpensAs shape.now digest.now bytes result }
         ensures names_both { NamesBoth digest.now result }
+        ensures form { IsFormed shape.now result }
 
         ensures same { D.content disk.new ≡ D.content disk.old }
         ensures writes_nothing { IsTrue (D.honest disk.old) → Same D.content D.images D.moment disk.old disk.new × Leaves D.images D.moment disk.old disk.new (λ _. ⊥) }
         ensures at_rest { IsTrue (D.honest disk.old) → (file : List ℕ) → AtRest D.content D.images D.moment disk.old file → AtRest D.content D.images D.moment disk.new file }
         ensures honest { D.honest disk.new ≡ D.honest disk.old }
+        ensures later { D.moment disk.old ≤ D.moment disk.new }
 
         ensures disk_fault { IsErrOf result DiskFault → Rose (D.faults disk.old) (D.faults disk.new) }
         ensures no_fault { OnOk result (D.faults disk.new ≡ D.faults disk.old) }
@@ -70,6 +72,7 @@ fn opened_from(
     requires long { 64 ≤ length bytes.now }
     ensures answer { OpensAs shape.now digest.now bytes.now result }
     ensures names_both { NamesBoth digest.now result }
+    ensures form { IsFormed shape.now result }
     ensures no_disk { IfErr result (λ e. e ≢ DiskFault) }
 {
     if !check_header(alloc, bytes, shape, digest)? {

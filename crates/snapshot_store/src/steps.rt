@@ -20,6 +20,8 @@ pub(crate) fn write_synced<D: Disk>(disk: &mut D, at: u64, bytes: &[u8]) -> Resu
         → Leaves D.images D.moment disk.old disk.new (Torn at (length bytes.now) file) }
     ensures cause { OnErr result (Rose (D.faults disk.old) (D.faults disk.new)) }
     ensures no_fault { OnOk result (D.faults disk.new ≡ D.faults disk.old) }
+    ensures later { D.moment disk.old ≤ D.moment disk.new }
+    ensures moved { OnOk result (D.moment disk.old < D.moment disk.new) }
     ensures honest { D.honest disk.new ≡ D.honest disk.old }
 {
     disk.write_at(at, bytes)?;
@@ -35,6 +37,8 @@ pub(crate) fn close_gate<D: Disk>(disk: &mut D, at: u64) -> Result<(), Failed>
         → Leaves D.images D.moment disk.old disk.new (ClosesGate at file) }
     ensures cause { OnErr result (Rose (D.faults disk.old) (D.faults disk.new)) }
     ensures no_fault { OnOk result (D.faults disk.new ≡ D.faults disk.old) }
+    ensures later { D.moment disk.old ≤ D.moment disk.new }
+    ensures moved { OnOk result (D.moment disk.old < D.moment disk.new) }
     ensures honest { D.honest disk.new ≡ D.honest disk.old }
 {
     let size = disk.len()?;

@@ -1,6 +1,6 @@
 // A snapshot goes to the slot of its epoch's parity, whose gate stands closed on the disk before its body is written, and is
 // opened by a write of its own once the body is on the disk.
-ghost use Rattle.std.specs.Prelude.{◌≡◌, ◌⊎◌, ◌+◌, ◌%◌, ◌<◌, ℕ, List, length, IsErrOf, IsTrue, IfOk, IfErr, OnOk, OnErr, Ok, Some};
+ghost use Rattle.std.specs.Prelude.{◌≡◌, ◌⊎◌, ◌+◌, ◌%◌, ◌<◌, ◌≤◌, ℕ, List, length, IsErrOf, IsTrue, IfOk, IfErr, OnOk, OnErr, Ok, Some};
 ghost use Rattle.grape_port.specs.Ports.{Rose};
 ghost use Rattle.grape_disk.specs.Images.{AtRest, Leaves};
 ghost use Rattle.token_cut.specs.Form.{IsInSlotForm};
@@ -76,6 +76,10 @@ impl Store {
         ensures no_memory { IsErrOf result NoMemoryFault → disk.new ≡ disk.old }
         ensures no_other { IfErr result (λ e. (e ≡ DiskFault) ⊎ (e ≡ NoMemoryFault)) }
 
+        // Moments don't fall, and an Ok call has moved on.
+        ensures later { D.moment disk.old ≤ D.moment disk.new }
+        ensures moved { OnOk result (D.moment disk.old < D.moment disk.new) }
+
         ensures honest { D.honest disk.new ≡ D.honest disk.old }
     {
         let size = slot_len(shape);
@@ -122,6 +126,10 @@ impl Store {
         ensures no_fault { OnOk result (D.faults disk.new ≡ D.faults disk.old) }
         ensures no_memory { IsErrOf result NoMemoryFault → disk.new ≡ disk.old }
         ensures no_other { IfErr result (λ e. (e ≡ DiskFault) ⊎ (e ≡ NoMemoryFault)) }
+
+        // Moments don't fall, and an Ok call has moved on.
+        ensures later { D.moment disk.old ≤ D.moment disk.new }
+        ensures moved { OnOk result (D.moment disk.old < D.moment disk.new) }
 
         ensures honest { D.honest disk.new ≡ D.honest disk.old }
     {
