@@ -1,6 +1,7 @@
 pub mod Blank
 pub mod Created
 pub mod Gates
+mod Kept
 pub mod Moments
 pub mod Pieces
 pub mod Prefix

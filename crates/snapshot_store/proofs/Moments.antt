@@ -1,6 +1,7 @@
 -- How the images since a moment grow over the calls of a disk.
-use Rattle.std.proofs.Common.{inl, inr, ⊎_elim, ℕ, ◌≤◌, List, Option, subst, arith}
+use Rattle.std.proofs.Common.{inl, inr, ⊎_elim, ℕ, ◌+◌, ◌≤◌, List, length, Option, subst, arith}
 use Rattle.grape_disk.specs.Images.{AtRest, Quiet, Writes, Leaves, Torn}
+use Rattle.snapshot_store.specs.Lengths.{StaysWithin}
 
 module _ {D : Type 0} (content : D → Option (List ℕ)) (images : D → ℕ → List ℕ → Type 0) (moment : D → ℕ) where
   -- no call made
@@ -41,3 +42,34 @@ module _ {D : Type 0} (content : D → Option (List ℕ)) (images : D → ℕ �
     record { later = later; each = λ t c le image. ⊎_elim (λ before. inl before) (λ torn. inr (keeps torn.0 c (all torn.0 torn.1) torn.2)) (writes.since t c le image) },
     λ c image. let torn = writes.now c image in keeps torn.0 c (all torn.0 torn.1) torn.2,
   )
+
+-- by the law that the moments since a later one are among those since an earlier one
+module _ {D : Type 0} (images : D → ℕ → List ℕ → Type 0) (moment : D → ℕ) (since : (disk : D) (earlier later : ℕ) (c : List ℕ) → earlier ≤ later → images disk later c → images disk earlier c) where
+  -- a crash at this moment leaves no more than so many bytes
+  abbrev pub AreWithin : ℕ → D → Type 0
+  AreWithin most disk = (c : List ℕ) → images disk (moment disk) c → length c ≤ most
+
+  pub within_after : (old new : D) (most : ℕ) → AreWithin most old → Leaves images moment old new (λ c. length c ≤ most) → AreWithin most new
+  within_after old new most all leaves c image =
+      ⊎_elim (λ before. all c before) (λ low. low) (leaves.each (moment old) c (omega arith) (since new (moment old) (moment new) c leaves.later image))
+
+  -- one step after another
+  pub within_then : (old mid new : D) (most : ℕ) → StaysWithin images moment most old mid → StaysWithin images moment most mid new → StaysWithin images moment most old new
+  within_then old mid new most first second all =
+      let leaves = first all in
+      let more = second (within_after old mid most all leaves) in
+      record {
+        later = omega (arith, leaves.later, more.later);
+        each = λ t c le image. ⊎_elim (λ before. leaves.each t c le before) (λ low. inr low) (more.each t c (omega (arith, le, leaves.later)) image);
+      }
+
+  -- a call that writes nothing
+  pub within_quiet : (old new : D) (most : ℕ) → moment old ≤ moment new → Quiet images moment old new → StaysWithin images moment most old new
+  within_quiet old new most later quiet all = record { later = later; each = λ t c le image. inl (quiet.since t c le image) }
+
+  -- a write that ends within them
+  pub within_write : (old new : D) (most at n : ℕ) → moment old ≤ moment new → at + n ≤ most → Writes images moment at n old new → StaysWithin images moment most old new
+  within_write old new most at n later end writes all = record {
+    later = later;
+    each = λ t c le image. ⊎_elim (λ before. inl before) (λ torn. let low = all torn.0 torn.1 in inr (omega (arith, low, end, torn.2.no_longer))) (writes.since t c le image);
+  }

@@ -1,9 +1,10 @@
 -- What the bytes of a state file stand for.
-use Rattle.std.specs.Prelude.{◌≡◌, ◌⊎◌, max, ℕ, ◌+◌, ◌*◌, ◌≤◌, Bool, not, ◌&&◌, ◌||◌, nat_le, nat_lt, ◌==◌, if◌then◌else◌, List, [], ◌∷◌, ◌++◌, take, drop, length, replicate, slice_index, Option, Some, None, is_some, Result, Ok, Err}
+use Rattle.std.specs.Prelude.{◌≡◌, ◌⊎◌, max, ℕ, ◌+◌, ◌*◌, ◌%◌, ◌≤◌, Bool, not, ◌&&◌, ◌||◌, nat_le, nat_lt, ◌==◌, if◌then◌else◌, List, [], ◌∷◌, ◌++◌, take, drop, length, replicate, slice_index, Option, Some, None, is_some, Result, Ok, Err}
 use Rattle.byteorder.specs.Endian.{big_bytes}
-use Rattle.grape_disk.specs.Images.{piece}
+use Rattle.grape_disk.specs.Images.{piece, written}
 use Rattle.token_cut.specs.Parts.{SnapshotParts}
 use Rattle.token_cut.specs.Shapes.{Starts}
+use Rattle.snapshot_file.specs.Bodies.{body_bytes}
 use Rattle.snapshot_file.specs.Lengths.{slot_length, file_length}
 use Rattle.snapshot_file.specs.Reading.{number, decoded}
 
@@ -106,6 +107,10 @@ pub record IsKept (shape : Starts) (digest : List ℕ) (epoch : ℕ) (file : Lis
 pub record KeepsOrTakes (shape : Starts) (digest : List ℕ) (snapshot : SnapshotParts) (file c : List ℕ) : Type 0 where
   pub state : (file_state shape digest c ≡ file_state shape digest file) ⊎ (file_state shape digest c ≡ last snapshot)
   pub size : length c ≤ max (length file) (file_length shape)
+
+-- the file once a snapshot is kept: an open gate and the body stand in the slot of its epoch, and all else is as it was
+abbrev pub kept_file : Starts → SnapshotParts → List ℕ → List ℕ
+kept_file shape snapshot file = written (slot_place shape (snapshot.epoch % 2)) (OPEN ∷ body_bytes snapshot) file
 
 -- after a put: the file stands for the snapshot
 pub record Takes (shape : Starts) (digest : List ℕ) (snapshot : SnapshotParts) (file : List ℕ) : Type 0 where

@@ -2,6 +2,7 @@
 ghost use Rattle.std.specs.Prelude.{◌≡◌, ◌+◌, ◌^◌, ◌<◌, ◌≤◌, ℕ, List, length, IsTrue, IfOk, OnOk, OnErr};
 ghost use Rattle.grape_port.specs.Ports.{Rose};
 ghost use Rattle.grape_disk.specs.Images.{AtRest, Leaves};
+ghost use Rattle.snapshot_store.specs.Lengths.{StaysWithin};
 ghost use Rattle.snapshot_store.specs.State.{front_bytes};
 ghost use Rattle.snapshot_store.specs.Steps.{HasShutGate, ClosesFile, KeepsGate, blank};
 
@@ -35,6 +36,7 @@ pub(crate) fn close_file<D: Disk>(disk: &mut D) -> Result<(), Failed>
         → (new : List ℕ) × AtRest D.content D.images D.moment disk.new new × HasShutGate file new) }
     ensures crash { IsTrue (D.honest disk.old) → (file : List ℕ) → AtRest D.content D.images D.moment disk.old file
         → Leaves D.images D.moment disk.old disk.new (ClosesFile file) }
+    ensures size { IsTrue (D.honest disk.old) → (most : ℕ) → 1 ≤ most → StaysWithin D.images D.moment most disk.old disk.new }
     ensures cause { OnErr result (Rose (D.faults disk.old) (D.faults disk.new)) }
     ensures no_fault { OnOk result (D.faults disk.new ≡ D.faults disk.old) }
     ensures later { D.moment disk.old ≤ D.moment disk.new }
@@ -65,6 +67,7 @@ pub(crate) fn write_blank<D: Disk>(
         → AtRest D.content D.images D.moment disk.new (blank front.now gate end file)) }
     ensures crash { IsTrue (D.honest disk.old) → (file : List ℕ) → AtRest D.content D.images D.moment disk.old file → 0 < length file
         → Leaves D.images D.moment disk.old disk.new (KeepsGate file (end + 1)) }
+    ensures size { IsTrue (D.honest disk.old) → (most : ℕ) → end < most → StaysWithin D.images D.moment most disk.old disk.new }
     ensures cause { OnErr result (Rose (D.faults disk.old) (D.faults disk.new)) }
     ensures no_fault { OnOk result (D.faults disk.new ≡ D.faults disk.old) }
     ensures later { D.moment disk.old ≤ D.moment disk.new }

@@ -1,7 +1,8 @@
 // The two steps that a store makes of calls of the disk.
-ghost use Rattle.std.specs.Prelude.{◌≡◌, ◌+◌, ◌^◌, ◌<◌, ◌≤◌, ℕ, List, [], ◌∷◌, length, IsTrue, OnOk, OnErr};
+ghost use Rattle.std.specs.Prelude.{◌≡◌, ◌+◌, ◌^◌, ◌<◌, ◌≤◌, ℕ, List, [], ◌∷◌, length, Some, IsTrue, OnOk, OnErr};
 ghost use Rattle.grape_port.specs.Ports.{Rose};
 ghost use Rattle.grape_disk.specs.Images.{AtRest, Leaves, Torn, written};
+ghost use Rattle.snapshot_store.specs.Lengths.{StaysWithin};
 ghost use Rattle.snapshot_store.specs.State.{OPEN};
 ghost use Rattle.snapshot_store.specs.Steps.{closed, ClosesGate};
 
@@ -14,10 +15,11 @@ pub(crate) const OPEN: u8 = 0x47;
 pub(crate) fn write_synced<D: Disk>(disk: &mut D, at: u64, bytes: &[u8]) -> Result<(), Failed>
     requires some { 0 < length bytes.now }
     requires room { at + length bytes.now ≤ 2 ^ 62 }
-    ensures done { OnOk result (IsTrue (D.honest disk.old) → (file : List ℕ) → AtRest D.content D.images D.moment disk.old file
+    ensures done { OnOk result (IsTrue (D.honest disk.old) → (file : List ℕ) → D.content disk.old ≡ Some file
         → AtRest D.content D.images D.moment disk.new (written at bytes.now file)) }
     ensures crash { IsTrue (D.honest disk.old) → (file : List ℕ) → AtRest D.content D.images D.moment disk.old file
         → Leaves D.images D.moment disk.old disk.new (Torn at (length bytes.now) file) }
+    ensures size { IsTrue (D.honest disk.old) → (most : ℕ) → at + length bytes.now ≤ most → StaysWithin D.images D.moment most disk.old disk.new }
     ensures cause { OnErr result (Rose (D.faults disk.old) (D.faults disk.new)) }
     ensures no_fault { OnOk result (D.faults disk.new ≡ D.faults disk.old) }
     ensures later { D.moment disk.old ≤ D.moment disk.new }
@@ -33,8 +35,10 @@ pub(crate) fn close_gate<D: Disk>(disk: &mut D, at: u64) -> Result<(), Failed>
     requires { at < 2 ^ 62 }
     ensures done { OnOk result (IsTrue (D.honest disk.old) → (file : List ℕ) → AtRest D.content D.images D.moment disk.old file
         → AtRest D.content D.images D.moment disk.new (closed at file)) }
+    ensures told { OnOk result (IsTrue (D.honest disk.old) → (file : List ℕ) → D.content disk.old ≡ Some file → D.content disk.new ≡ Some (closed at file)) }
     ensures crash { IsTrue (D.honest disk.old) → (file : List ℕ) → AtRest D.content D.images D.moment disk.old file
         → Leaves D.images D.moment disk.old disk.new (ClosesGate at file) }
+    ensures size { IsTrue (D.honest disk.old) → (most : ℕ) → at < most → StaysWithin D.images D.moment most disk.old disk.new }
     ensures cause { OnErr result (Rose (D.faults disk.old) (D.faults disk.new)) }
     ensures no_fault { OnOk result (D.faults disk.new ≡ D.faults disk.old) }
     ensures later { D.moment disk.old ≤ D.moment disk.new }

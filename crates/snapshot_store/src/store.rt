@@ -6,9 +6,10 @@ ghost use Rattle.grape_disk.specs.Images.{AtRest, Leaves};
 ghost use Rattle.token_cut.specs.Form.{IsInSlotForm};
 ghost use Rattle.token_cut.specs.Shapes.{IsShape};
 ghost use Rattle.snapshot_file.specs.Bodies.{body_bytes};
-ghost use Rattle.snapshot_file.specs.Lengths.{body_length};
+ghost use Rattle.snapshot_file.specs.Lengths.{body_length, file_length};
 ghost use Rattle.snapshot_file.specs.Reading.{decoded};
-ghost use Rattle.snapshot_store.specs.State.{file_state, StaysNothing, IsKept, KeepsOrTakes, Takes};
+ghost use Rattle.snapshot_store.specs.Lengths.{StaysWithin};
+ghost use Rattle.snapshot_store.specs.State.{file_state, kept_file, StaysNothing, IsKept, KeepsOrTakes, Takes};
 ghost use Rattle.snapshot_store.specs.State.FileState.{nothing};
 ghost use Rattle.snapshot_store.specs.declared.fault.StoreFault.TheVariants.{Disk as DiskFault, NoMemory as NoMemoryFault};
 
@@ -68,6 +69,9 @@ impl Store {
         ensures any_moment { IsTrue (D.honest disk.old) → (file : List ℕ) → AtRest D.content D.images D.moment disk.old file
             → Leaves D.images D.moment disk.old disk.new (StaysNothing shape.now digest.now file) }
 
+        // No image gets longer than the longest at entry, or than the file has to be, whatever is pending.
+        ensures size { IsTrue (D.honest disk.old) → (most : ℕ) → file_length shape.now ≤ most → StaysWithin D.images D.moment most disk.old disk.new }
+
         ensures store { IfOk result (λ store. (store.digest ≡ digest.now) × (store.last ≡ 0)) }
 
         // It doesn't give up by itself.
@@ -116,6 +120,12 @@ impl Store {
         // A crash at any moment of the call leaves the state from before it, or the snapshot.
         ensures any_moment { IsTrue (D.honest disk.old) → (file : List ℕ) → AtRest D.content D.images D.moment disk.old file → IsKept shape.now self.old.digest self.old.last file
             → Leaves D.images D.moment disk.old disk.new (KeepsOrTakes shape.now self.old.digest snapshot.now file) }
+
+        // The file of an Ok call, and that no image gets longer than the longest at entry, or than the file has to be, whatever is
+        // pending and whatever stands there.
+        ensures file { OnOk result (IsTrue (D.honest disk.old) → (file : List ℕ) → D.content disk.old ≡ Some file
+            → AtRest D.content D.images D.moment disk.new (kept_file shape.now snapshot.now file)) }
+        ensures size { IsTrue (D.honest disk.old) → (most : ℕ) → file_length shape.now ≤ most → StaysWithin D.images D.moment most disk.old disk.new }
 
         ensures digest { self.new.digest ≡ self.old.digest }
         ensures last { OnOk result (self.new.last ≡ snapshot.now.epoch) }
