@@ -1,8 +1,8 @@
 -- What a disk in memory holds, and what each of its calls does.
-use Rattle.std.specs.Prelude.{ℕ, ◌+◌, ◌-◌, ◌^◌, ◌==◌, ◌<◌, Bool, true, false, ◌&&◌, ◌||◌, nat_lt, nat_le, ⊤, List, [], ◌∷◌, Option, Some, None}
+use Rattle.std.specs.Prelude.{◌≡◌, ◌⊎◌, ℕ, ◌+◌, ◌-◌, ◌^◌, ◌==◌, ◌<◌, Bool, true, false, ◌&&◌, ◌||◌, nat_lt, nat_le, ⊤, IsTrue, List, [], ◌∷◌, length, Option, Some, None}
 use Rattle.std.specs.List.{list_any}
 use Rattle.grape_port.specs.Ports.{one_more}
-use Rattle.grape_disk.specs.Platters.{Did, PlatterState, platter, ImageSince}
+use Rattle.grape_disk.specs.Platters.{Did, wrote, PlatterState, platter, ImageSince}
 
 -- The bytes at the start, the writes and syncs since, each with its moment and the newest first, and how many bytes there is room
 -- for.
@@ -15,18 +15,19 @@ pub record HistoryState : Type 0 where
 abbrev pub did : ℕ → Did → HistoryState → HistoryState
 did moment call h = record h { done = (moment, call) ∷ h.done }
 
--- The file, the numbers, from 1, of the calls that fail and of the first that does with all after it, and how many calls were
--- made and how many of them failed.
+-- The file, the numbers, from 1, of the calls that fail and of the first that does with all after it, how many calls were made
+-- and how many of them failed, and how many found no memory for their record.
 pub record MemDiskState : Type 0 where
   pub file : HistoryState
   pub fails : List ℕ
   pub stop : Option ℕ
   pub calls : ℕ
   pub faults : ℕ
+  pub unrecorded : ℕ
 
 -- before the first call
 abbrev pub new_disk : ℕ → List ℕ → List ℕ → Option ℕ → MemDiskState
-new_disk room bytes fails stop = record { file = record { start = bytes; done = []; room = room }; fails = fails; stop = stop; calls = 0; faults = 0 }
+new_disk room bytes fails stop = record { file = record { start = bytes; done = []; room = room }; fails = fails; stop = stop; calls = 0; faults = 0; unrecorded = 0 }
 
 -- what stands on the platter
 abbrev pub now : MemDiskState → PlatterState
@@ -53,13 +54,28 @@ called s = record s { calls = one_more s.calls }
 abbrev pub failed : MemDiskState → MemDiskState
 failed s = record s { calls = one_more s.calls; faults = one_more s.faults }
 
+-- after a write or a sync for whose record there was no memory
+abbrev pub forgot : MemDiskState → MemDiskState
+forgot s = record s { calls = one_more s.calls; faults = one_more s.faults; unrecorded = one_more s.unrecorded }
+
 -- the same disk with one more write or sync, at its moment
 abbrev pub with : Did → MemDiskState → MemDiskState
 with call s = record s { file = did s.calls call s.file }
 
--- there is a number for the next call, and room up to an end
+-- after so many calls there is a number for the next one, and room up to an end
+abbrev pub is_placed : ℕ → ℕ → ℕ → Bool
+is_placed calls room end = nat_lt calls (2 ^ 64 - 1) && nat_le end room
+
 abbrev pub has_place : MemDiskState → ℕ → Bool
-has_place s end = nat_lt s.calls (2 ^ 64 - 1) && nat_le end s.file.room
+has_place s end = is_placed s.calls s.file.room end
+
+-- A failed write is done, and not synced. Where there is no number or no room for it, or no memory for its record, only counts
+-- change.
+abbrev pub FailedWrite : ℕ → List ℕ → MemDiskState → MemDiskState → Type 0
+FailedWrite at bytes old new =
+    (IsTrue (has_place old (at + length bytes)) × IsTrue (fails_next old) × (new ≡ failed (with (wrote at bytes) old)))
+    ⊎ ((has_place old (at + length bytes) ≡ false) × (new ≡ failed old))
+    ⊎ (IsTrue (has_place old (at + length bytes)) × (new ≡ forgot old))
 
 -- each write and sync has one of the moments before so many calls
 abbrev pub AreEarlier : ℕ → List (ℕ × Did) → Type 0

@@ -14,11 +14,14 @@ use std::marker::Model;
 /// interrupted the call.
 ///
 /// The first call opens the file, and makes it where it is missing; where that fails, the next call
-/// tries it again. Opening syncs the folder too, so that the entry of a new file is on the device
-/// before anything is written. `sync` is the `sync_all` of the system's file, which waits until the
-/// device has its bytes and its length.
+/// tries it again. Opening syncs the file and its folder, so that what is read is on the device
+/// before it is believed, and the entry of a new file before anything is written. `sync` is the
+/// `sync_all` of the system's file, which waits until the device has its bytes and its length. The
+/// file never has one of the descriptors of the standard streams, 0, 1 and 2.
 ///
 /// It tells nothing of what the file holds, nor of what a crash leaves: those are the system's.
+/// Where a sync failed, Linux may drop what it could not write and go on as if it had: such a file
+/// isn't to be trusted before the system was started anew.
 #[derive(Drop)]
 pub struct FileDisk<R: Files> {
     file: LateFile<R>,

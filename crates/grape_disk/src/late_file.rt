@@ -51,17 +51,29 @@ impl<R: Files + Drop> LateFile<R> {
     }
 }
 
-// The entry of a new file is on the device only once its folder is.
+// The file's own sync comes before anything is read of it: what another process wrote may stand in
+// the system's cache alone, and a crash would take back what was believed. The entry of a new file
+// is on the device only once its folder is.
+//
+// The system gives a file the lowest descriptor that is free. While the folder is open three times,
+// none of 0, 1 and 2 is, so a process that was started without its standard streams never writes
+// an answer or a note into this file.
 fn open<R: Files>(rt: &R, path: &str) -> io::Result<R::File> {
+    let place = match Path::new(path).parent() {
+        Some(place) if !place.as_str().is_empty() => place,
+        _ => Path::new("."),
+    };
+    let folder = File::open(rt, place)?;
+    let second = File::open(rt, place)?;
+    let third = File::open(rt, place)?;
     let file = File::options()
         .read(true)
         .write(true)
         .create(true)
         .open(rt, path)?;
-    let folder = match Path::new(path).parent() {
-        Some(folder) if !folder.as_str().is_empty() => folder,
-        _ => Path::new("."),
-    };
-    File::open(rt, folder)?.sync_all()?;
+    drop(second);
+    drop(third);
+    file.sync_all()?;
+    folder.sync_all()?;
     Ok(file)
 }

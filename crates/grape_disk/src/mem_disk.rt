@@ -2,7 +2,7 @@ ghost use Rattle.std.specs.Prelude.{◌≡◌, ◌⊎◌, ◌+◌, ◌-◌, ◌^
 ghost use Rattle.grape_port.specs.Ports.{Rose, one_more};
 ghost use Rattle.grape_disk.specs.Images.{piece, AtRest, Same, Quiet, Writes, Counts};
 ghost use Rattle.grape_disk.specs.Platters.{wrote, synced};
-ghost use Rattle.grape_disk.specs.MemDisks.{new_disk, now, did, refuses, is_stopped, fails_next, has_place, called, failed, with, AreEarlier, content_of, images_of, calls_of, faults_of, always};
+ghost use Rattle.grape_disk.specs.MemDisks.{new_disk, now, did, refuses, is_stopped, fails_next, is_placed, has_place, FailedWrite, called, failed, forgot, with, AreEarlier, content_of, images_of, calls_of, faults_of, always};
 ghost use Rattle.grape_disk.specs.Picks.{picked};
 ghost use Rattle.grape_disk.specs.Laws as laws;
 
@@ -22,6 +22,7 @@ pub struct MemDisk {
     stop: Option<u64>,
     calls: u64,
     faults: u64,
+    unrecorded: u64,
 }
 
 impl Model for MemDisk {
@@ -29,7 +30,7 @@ impl Model for MemDisk {
 
     ghost Value = { MemDiskState };
 
-    ghost view = { λ d. record { file = d.file; fails = d.fails.items; stop = d.stop; calls = d.calls; faults = d.faults } };
+    ghost view = { λ d. record { file = d.file; fails = d.fails.items; stop = d.stop; calls = d.calls; faults = d.faults; unrecorded = d.unrecorded } };
 
     ghost invariant = { λ d. AreEarlier d.calls d.file.done };
 }
@@ -58,6 +59,7 @@ impl MemDisk {
             stop,
             calls: 0,
             faults: 0,
+            unrecorded: 0,
         })
     }
 
@@ -89,6 +91,17 @@ impl MemDisk {
         }
         true
     }
+
+    // Counts a fault for want of memory for a record.
+    fn forget(&mut self) -> Result<(), Failed>
+        ensures err { IsErr result }
+        ensures state { self.new ≡ record self.old { faults = one_more self.old.faults; unrecorded = one_more self.old.unrecorded } }
+        ensures rose { Rose self.old.faults self.new.faults }
+    {
+        self.faults = self.faults.saturating_add(1);
+        self.unrecorded = self.unrecorded.saturating_add(1);
+        Err(Failed)
+    }
 }
 
 fn is_refused(calls: u64, fails: &[u64], stop: Option<u64>) -> bool
@@ -110,19 +123,21 @@ fn is_past(stop: Option<u64>, number: u64) -> bool
     }
 }
 
-// Whether there was a number, room and memory for the write; it is done where there was.
-fn try_write(file: &mut History, calls: u64, at: u64, from: &[u8]) -> bool
+// Whether there was a number and room for the write. It is done where there was, and memory for its record.
+fn try_write(file: &mut History, calls: u64, at: u64, from: &[u8]) -> Result<bool, NoMemory>
     requires { at + length from.now ≤ 2 ^ 62 }
-    ensures number { result ≡ true → calls < 2 ^ 64 - 1 }
-    ensures room { result ≡ true → at + length from.now ≤ file.old.room }
-    ensures done { result ≡ true → file.new ≡ did calls (wrote at from.now) file.old }
-    ensures not_done { result ≡ false → file.new ≡ file.old }
+    ensures place { IfOk result (λ placed. placed ≡ is_placed calls file.old.room (at + length from.now)) }
+    ensures done { IfOk result (λ placed. placed ≡ true → file.new ≡ did calls (wrote at from.now) file.old) }
+    ensures not_done { IfOk result (λ placed. placed ≡ false → file.new ≡ file.old) }
+    ensures no_memory { OnErr result (file.new ≡ file.old) }
+    ensures has_place { OnErr result (IsTrue (is_placed calls file.old.room (at + length from.now))) }
     ensures earlier { AreEarlier calls file.old.done → AreEarlier (one_more calls) file.new.done }
 {
     if calls == u64::MAX || !file.has_room(at, from.len()) {
-        return false;
+        return Ok(false);
     }
-    file.write(calls, at, from).is_ok()
+    file.write(calls, at, from)?;
+    Ok(true)
 }
 
 impl Disk for MemDisk {
@@ -178,9 +193,8 @@ impl Disk for MemDisk {
         ensures no_room { self.old.file.room < at + length from.now → IsErr result }
         ensures wrote { OnOk result (self.new ≡ called (with (wrote at from.now) self.old)) }
 
-        // It is done where there is a number, room and memory for it.
-        ensures failed { OnErr result ((self.new ≡ failed self.old)
-            ⊎ (IsTrue (fails_next self.old) × IsTrue (has_place self.old (at + length from.now)) × (self.new ≡ failed (with (wrote at from.now) self.old)))) }
+        // It is done all the same, where there is a number, room and memory for it.
+        ensures failed { OnErr result (FailedWrite at from.now self.old self.new) }
 
         ensures no_number { self.old.calls ≡ 2 ^ 64 - 1 → Same content_of images_of calls_of self.old self.new × Quiet images_of calls_of self.old self.new }
         ensures writes { Writes images_of calls_of at (length from.now) self.old self.new }
@@ -188,9 +202,12 @@ impl Disk for MemDisk {
     {
         let moment = self.calls;
         let refused = is_refused(moment, &self.fails, self.stop);
-        let done = try_write(&mut self.file, moment, at, from);
+        let tried = try_write(&mut self.file, moment, at, from);
         self.calls = moment.saturating_add(1);
-        if refused || !done {
+        let Ok(placed) = tried else {
+            return self.forget();
+        };
+        if refused || !placed {
             self.faults = self.faults.saturating_add(1);
             return Err(Failed);
         }
@@ -200,7 +217,7 @@ impl Disk for MemDisk {
     fn sync(&mut self) -> Result<(), Failed>
         ensures fails { IsTrue (fails_next self.old) → IsErr result }
         ensures synced { OnOk result (self.new ≡ called (with synced self.old)) }
-        ensures failed { OnErr result (self.new ≡ failed self.old) }
+        ensures failed { OnErr result ((IsTrue (fails_next self.old) × (self.new ≡ failed self.old)) ⊎ (self.new ≡ forgot self.old)) }
         ensures durable { OnOk result (AtRest content_of images_of calls_of self.new (now self.old).read) }
         ensures fewer { (c : List ℕ) → images_of self.new self.new.calls c → images_of self.old self.old.calls c }
         ensures quiet { Quiet images_of calls_of self.old self.new }
@@ -211,8 +228,7 @@ impl Disk for MemDisk {
             return Err(Failed);
         }
         if self.file.sync(self.calls - 1).is_err() {
-            self.faults = self.faults.saturating_add(1);
-            return Err(Failed);
+            return self.forget();
         }
         Ok(())
     }

@@ -94,21 +94,60 @@ fn a_file_of_the_system(rt: HostRuntime) -> Result<(), Fail> {
     Ok(())
 }
 
-// What was opened and synced, as digits: 1 the file is opened and 2 it is synced, 3 its folder is
-// opened and 4 it is synced.
+// What was done, as digits: 1 the file is opened and 2 it is synced, 3 its folder is opened and 4 it
+// is synced, 5 the file is read and 6 written. Descriptors are bits: a file has the lowest free one
+// while it is open. The first syncs fail, as many as that.
 #[derive(Drop)]
-struct NotedFiles<'a> {
-    note: &'a Cell<u64>,
+struct Notes {
+    done: Cell<u64>,
+    taken: Cell<u64>,
+    state: Cell<u64>,
+    failing: Cell<u64>,
 }
 
-#[derive(Drop)]
+impl Notes {
+    fn new(failing: u64) -> Notes {
+        Notes {
+            done: Cell::new(0),
+            taken: Cell::new(0),
+            state: Cell::new(0),
+            failing: Cell::new(failing),
+        }
+    }
+
+    fn add(&self, digit: u64) {
+        self.done
+            .set(self.done.get().wrapping_mul(10).wrapping_add(digit));
+    }
+
+    fn take(&self) -> u64 {
+        let taken = self.taken.get();
+        let lowest = !taken & taken.wrapping_add(1);
+        self.taken.set(taken | lowest);
+        lowest
+    }
+}
+
 struct NotedFile<'a> {
-    note: &'a Cell<u64>,
+    notes: &'a Notes,
+    descriptor: u64,
     sync: u64,
 }
 
-fn add(note: &Cell<u64>, digit: u64) {
-    note.set(note.get().wrapping_mul(10).wrapping_add(digit));
+impl<'a> Drop for NotedFile<'a> {
+    fn drop(self) {
+        let NotedFile {
+            notes,
+            descriptor,
+            sync: _sync,
+        } = self;
+        notes.taken.set(notes.taken.get() & !descriptor);
+    }
+}
+
+#[derive(Drop)]
+struct NotedFiles<'a> {
+    notes: &'a Notes,
 }
 
 fn unsupported() -> io::Error {
@@ -128,9 +167,14 @@ impl<'a> Files for NotedFiles<'a> {
         } else {
             return Err(unsupported());
         };
-        add(self.note, opened);
+        self.notes.add(opened);
+        let descriptor = self.notes.take();
+        if opened == 1 {
+            self.notes.state.set(descriptor);
+        }
         Ok(NotedFile {
-            note: self.note,
+            notes: self.notes,
+            descriptor,
             sync: opened + 1,
         })
     }
@@ -182,7 +226,12 @@ impl<'a> OpenFile for NotedFile<'a> {
     }
 
     fn sync_all(&self) -> io::Result<()> {
-        add(self.note, self.sync);
+        self.notes.add(self.sync);
+        let failing = self.notes.failing.get();
+        if failing > 0 {
+            self.notes.failing.set(failing - 1);
+            return Err(unsupported());
+        }
         Ok(())
     }
 
@@ -193,12 +242,14 @@ impl<'a> OpenFile for NotedFile<'a> {
 
 impl<'a> Read for NotedFile<'a> {
     fn read(&mut self, _buf: &mut [u8]) -> io::Result<usize> {
+        self.notes.add(5);
         Ok(0)
     }
 }
 
 impl<'a> Write for NotedFile<'a> {
     fn write(&mut self, _buf: &[u8]) -> io::Result<usize> {
+        self.notes.add(6);
         Ok(0)
     }
 
@@ -214,15 +265,32 @@ impl<'a> Seek for NotedFile<'a> {
 }
 
 #[test]
-fn a_sync_reaches_the_file(rt: HostRuntime) -> Result<(), Fail> {
-    let note = Cell::new(0);
-    let files = NotedFiles { note: &note };
+fn a_file_is_synced_before_it_is_read(rt: HostRuntime) -> Result<(), Fail> {
+    let notes = Notes::new(0);
+    let files = NotedFiles { notes: &notes };
     let mut disk = FileDisk::new(&files, String::from_str(rt.alloc(), "states/a")?);
-    assert_eq!(rt; note.get(), 0);
+    assert_eq!(rt; notes.done.get(), 0);
+    assert_eq!(rt; disk.read_at(0, &mut [0]), Err(Failed));
+    assert_eq!(rt; notes.done.get(), 3331245);
     assert_eq!(rt; disk.write_at(0, b"x"), Err(Failed));
-    assert_eq!(rt; note.get(), 134);
     assert_eq!(rt; disk.sync(), Ok(()));
-    assert_eq!(rt; note.get(), 1342);
-    assert_eq!(rt; disk.len(), Err(Failed));
+    assert_eq!(rt; notes.done.get(), 333124562);
+    // No descriptor was taken at the beginning, and this one is that after 0, 1 and 2.
+    assert_eq!(rt; notes.state.get(), 8);
+    assert_eq!(rt; notes.taken.get(), 8);
+    Ok(())
+}
+
+#[test]
+fn a_file_that_is_not_synced_is_not_believed(rt: HostRuntime) -> Result<(), Fail> {
+    let notes = Notes::new(1);
+    let files = NotedFiles { notes: &notes };
+    let mut disk = FileDisk::new(&files, String::from_str(rt.alloc(), "states/a")?);
+    assert_eq!(rt; disk.sync(), Err(Failed));
+    assert_eq!(rt; notes.done.get(), 33312);
+    assert_eq!(rt; notes.taken.get(), 0);
+    assert_eq!(rt; disk.sync(), Ok(()));
+    assert_eq!(rt; notes.done.get(), 333123331242);
+    assert_eq!(rt; disk.calls(), 2);
     Ok(())
 }
