@@ -3,7 +3,8 @@
 //! It promises that [`encode`] writes the body of a snapshot, and that [`decode`] accepts exactly the
 //! bodies in the form and gives the snapshot back; of any other it names the place of the first wrong
 //! field. A body is the epoch and then, for each worker, its phase, the values of its places and its
-//! mail. Numbers are eight bytes, the highest first, and a phase is one byte. Neither takes memory.
+//! mail. Numbers are eight bytes, the highest first, and a phase is one byte. A body is written into
+//! room that is there, and read over a snapshot of its shape.
 #![tactic(auto)]
 
 mod damaged;

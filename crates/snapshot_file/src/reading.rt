@@ -18,7 +18,7 @@ use byteorder::{BigEndian, ByteOrder};
 use token_cut::{Part, Phase, Shape, ShapePart, Snapshot};
 use value_order::Order;
 
-/// Reads the body that stands at the place `base` of the file, in that slot. It takes no memory.
+/// Reads the body that stands at the place `base` of the file, in that slot.
 ///
 /// `Damaged` comes exactly where the body isn't in the form, with the place of the first wrong
 /// field. Then the fields before it are replaced, and all else of `into` stays.

@@ -8,7 +8,7 @@ ghost use Rattle.snapshot_file.specs.Reading.{decoded};
 use byteorder::{BigEndian, ByteOrder};
 use token_cut::{Part, Phase, Snapshot};
 
-/// Appends the body of a snapshot. There is room for it in `to`, and no memory is taken.
+/// Appends the body of a snapshot. There is room for it in `to`, whose capacity stays as it is.
 ///
 /// The body of a snapshot in the form has `body_len` bytes, and reads back as that snapshot wherever
 /// it stands in a file.
