@@ -1,7 +1,10 @@
-ghost use Rattle.std.specs.Prelude.{◌≡◌};
+ghost use Rattle.std.specs.Prelude.{◌≡◌, Some};
+ghost use Rattle.snapshot_store.specs.Faults.{fault_text};
 ghost use Rattle.snapshot_store.specs.declared.fault.StoreFault.TheVariants.{Disk as DiskFault, NoMemory as NoMemoryFault};
 
 use grape_port::{Failed, NoMemory};
+use std::error::Error;
+use std::fmt;
 
 /// Why a store could not be opened, or a snapshot not be kept.
 #[derive(Clone, Copy, Debug, PartialEq, Eq)]
@@ -31,3 +34,18 @@ impl From<NoMemory> for StoreFault {
         StoreFault::NoMemory
     }
 }
+
+impl fmt::Display for StoreFault {
+    ghost output = { λ fault. Some (fault_text fault) };
+
+    fn fmt<W: fmt::Write>(&self, f: &mut fmt::Formatter<W>) -> fmt::Result {
+        match self {
+            StoreFault::Disk => write!(f, "the disk failed"),
+            StoreFault::Other { .. } => write!(f, "the state file is another input's"),
+            StoreFault::Damaged { place } => write!(f, "the state file is damaged at {place}"),
+            StoreFault::NoMemory => write!(f, "out of memory"),
+        }
+    }
+}
+
+impl Error for StoreFault {}

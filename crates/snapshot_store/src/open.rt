@@ -17,7 +17,8 @@ use std::alloc::Global;
 use token_cut::Shape;
 
 impl Store {
-    /// Reads a file that a crash may have left. It writes nothing.
+    /// Reads a file that a crash may have left. It writes nothing, and it syncs nothing: where
+    /// something is pending, sync the disk first.
     ///
     /// `Other` comes where the file is another input's, and `Damaged` where it, or the slot that it
     /// stands for, has a byte that may not stand there.

@@ -50,9 +50,9 @@ impl Store {
 
     /// Makes the file of a store that has kept nothing, in the place of one that opens as nothing.
     ///
-    /// On an honest disk with nothing pending, a crash at any moment of the call leaves a file that
-    /// opens as nothing, and that is no longer than it was or has to be. After `StoreFault::Disk`
-    /// the file is one of those; after `StoreFault::NoMemory` the disk is untouched.
+    /// On an honest disk with nothing pending, to which nobody else writes, a crash at any moment of
+    /// the call leaves a file that opens as nothing. After `StoreFault::Disk` the file is one of
+    /// those; after `StoreFault::NoMemory` the disk is untouched.
     pub fn create<D: Disk>(
         alloc: Global,
         disk: &mut D,
@@ -69,7 +69,7 @@ impl Store {
         ensures any_moment { IsTrue (D.honest disk.old) → (file : List ℕ) → AtRest D.content D.images D.moment disk.old file
             → Leaves D.images D.moment disk.old disk.new (StaysNothing shape.now digest.now file) }
 
-        // No image gets longer than the longest at entry, or than the file has to be, whatever is pending.
+        // No image gets longer than the longest at entry or than the file has to be, whatever is pending.
         ensures size { IsTrue (D.honest disk.old) → (most : ℕ) → file_length shape.now ≤ most → StaysWithin D.images D.moment most disk.old disk.new }
 
         ensures store { IfOk result (λ store. (store.digest ≡ digest.now) × (store.last ≡ 0)) }
@@ -98,12 +98,12 @@ impl Store {
         })
     }
 
-    /// Keeps a snapshot. At `Ok` it is kept: from then on each crash leaves a file that opens as it.
+    /// Keeps a snapshot.
     ///
-    /// On an honest disk with nothing pending, a crash at any moment of the call leaves a file that
-    /// opens as before or as the snapshot, and that is no longer than it was or has to be. After
-    /// `StoreFault::Disk` the file is one of those: open it again. After `StoreFault::NoMemory` the
-    /// disk is untouched.
+    /// On an honest disk with nothing pending, to which nobody else writes, a crash at any moment of
+    /// the call leaves a file that opens as before or as the snapshot, and at `Ok` one that opens as
+    /// the snapshot. After `StoreFault::Disk` the file is one of those: open it again. After
+    /// `StoreFault::NoMemory` the disk is untouched.
     pub fn put<D: Disk>(
         &mut self,
         disk: &mut D,
@@ -121,10 +121,11 @@ impl Store {
         ensures any_moment { IsTrue (D.honest disk.old) → (file : List ℕ) → AtRest D.content D.images D.moment disk.old file → IsKept shape.now self.old.digest self.old.last file
             → Leaves D.images D.moment disk.old disk.new (KeepsOrTakes shape.now self.old.digest snapshot.now file) }
 
-        // The file of an Ok call, and that no image gets longer than the longest at entry, or than the file has to be, whatever is
-        // pending and whatever stands there.
+        // The file of an Ok call, whatever was pending and whatever stood there.
         ensures file { OnOk result (IsTrue (D.honest disk.old) → (file : List ℕ) → D.content disk.old ≡ Some file
             → AtRest D.content D.images D.moment disk.new (kept_file shape.now snapshot.now file)) }
+
+        // No image gets longer than the longest at entry or than the file has to be, whatever is pending.
         ensures size { IsTrue (D.honest disk.old) → (most : ℕ) → file_length shape.now ≤ most → StaysWithin D.images D.moment most disk.old disk.new }
 
         ensures digest { self.new.digest ≡ self.old.digest }

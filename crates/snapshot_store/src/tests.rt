@@ -1,9 +1,9 @@
-ghost use Rattle.std.specs.Prelude.{◌≡◌, IfOk, OnOk};
+ghost use Rattle.std.specs.Prelude.{◌≡◌, ◌<◌, length, IfOk, OnOk};
 ghost use Rattle.snapshot_file.specs.Examples.{six_vertices};
 ghost use Rattle.snapshot_store.specs.Rows.{one_vertex, kept};
 
 use crate::{Opened, Store, StoreFault};
-use grape_disk::{MemDisk, Pick};
+use grape_disk::{Disk, MemDisk, Pick};
 use grape_port::NoMemory;
 use std::alloc::Global;
 use std::test::Fail;
@@ -61,13 +61,17 @@ fn snapshot_of(alloc: Global, epoch: u64) -> Result<Snapshot, NoMemory>
     Ok(Snapshot { epoch, parts })
 }
 
-// An empty disk that stops at that call, and what a creation answers on it.
+// What a creation answers on a disk with these bytes, and the disk. A file of less than 64 bytes stands for nothing.
 fn created(
     alloc: Global,
+    bytes: &[u8],
+    fails: Vec<u64>,
     stop: Option<u64>,
-) -> Result<(MemDisk, Result<Store, StoreFault>), NoMemory> {
+) -> Result<(MemDisk, Result<Store, StoreFault>), NoMemory>
+    requires { length bytes.now < 64 }
+{
     let shape = one_vertex(alloc)?;
-    let mut disk = MemDisk::new(alloc, 128, &[], Vec::new(alloc), stop)?;
+    let mut disk = MemDisk::new(alloc, 128, bytes, fails, stop)?;
     let store = Store::create(alloc, &mut disk, &shape, &DIGEST);
     Ok((disk, store))
 }
@@ -113,6 +117,72 @@ fn open_six(alloc: Global, bytes: &[u8]) -> Result<Answer, NoMemory> {
     Ok(answer_of(Store::open(alloc, &mut disk, &shape, &DIGEST)))
 }
 
+// What stands at a place of an image: the byte on the disk, the one that is read, any byte where it is pending, an open gate
+// where it is pending, or the first two in turn.
+#[derive(Clone, Copy, Debug, PartialEq, Eq)]
+enum Choice {
+    Old,
+    New,
+    Any,
+    Open,
+    InTurn,
+}
+
+// The bytes on the disk, those that are read, and two more images, which differ where a byte is pending.
+#[derive(Drop)]
+struct Images {
+    old: Vec<u8>,
+    new: Vec<u8>,
+    any: Vec<u8>,
+    other: Vec<u8>,
+}
+
+impl Images {
+    fn new(alloc: Global, disk: &MemDisk) -> Result<Images, NoMemory> {
+        Ok(Images {
+            old: disk.crash_image(alloc, Pick::Synced)?,
+            new: disk.crash_image(alloc, Pick::Read)?,
+            any: disk.crash_image(alloc, Pick::Mixed(0))?,
+            other: disk.crash_image(alloc, Pick::Mixed(2))?,
+        })
+    }
+
+    fn byte(&self, place: usize, choice: Choice) -> u8 {
+        let any = byte_at(&self.any, place);
+        let old = self.old.get(place).copied().unwrap_or(any);
+        let new = byte_at(&self.new, place);
+        match choice {
+            Choice::Old => old,
+            Choice::New => new,
+            Choice::Any => any,
+            Choice::Open if any != byte_at(&self.other, place) => 0x47,
+            Choice::Open => any,
+            Choice::InTurn if place % 2 == 0 => old,
+            Choice::InTurn => new,
+        }
+    }
+
+    // An image of that length, with one choice at the three gates and one elsewhere.
+    fn mixed(
+        &self,
+        alloc: Global,
+        len: usize,
+        gate: Choice,
+        rest: Choice,
+    ) -> Result<Vec<u8>, NoMemory> {
+        let mut image = Vec::new(alloc);
+        for place in 0..len {
+            let is_gate = place == 0 || place == 64 || place == 82;
+            image.push(self.byte(place, if is_gate { gate } else { rest }))?;
+        }
+        Ok(image)
+    }
+}
+
+fn byte_at(bytes: &[u8], place: usize) -> u8 {
+    bytes.get(place).copied().unwrap_or(0)
+}
+
 // A file gate, the name, the digest, the slot length and zeros.
 fn header(alloc: Global, slot_length: u8) -> Result<Vec<u8>, NoMemory> {
     let mut bytes = Vec::from_slice(alloc, b"GRAPEST1")?;
@@ -145,7 +215,7 @@ fn front(bytes: &[u8], len: usize) -> &[u8] {
 #[test]
 fn a_creation_and_puts_leave_these_bytes(rt: HostRuntime) -> Result<(), Fail> {
     let alloc = rt.alloc();
-    let (mut disk, store) = created(alloc, None)?;
+    let (mut disk, store) = created(alloc, &[], Vec::new(alloc), None)?;
     assert!(rt; store.is_ok());
     if let Ok(mut store) = store {
         let slots = [(0, 0), (0, 1), (2, 1), (2, 3)];
@@ -210,36 +280,56 @@ fn a_damaged_body_is_named_by_its_place(rt: HostRuntime) -> Result<(), Fail> {
     Ok(())
 }
 
-// Every image of this moment opens as the last kept epoch or as the next one.
-fn images_open(alloc: Global, disk: &MemDisk, last: u64) -> Result<bool, NoMemory> {
-    let before = if last == 0 {
-        Answer::Nothing
-    } else {
-        Answer::Last(last)
-    };
-    let next = Answer::Last(u64::wrapping_add(last, 1));
-    for pick in [Pick::Synced, Pick::Read, Pick::Mixed(0), Pick::Mixed(71)] {
-        let image = disk.crash_image(alloc, pick)?;
-        let answer = open_bytes(alloc, &image, &DIGEST)?;
-        if image.len() > 100 || (answer != before && answer != next) {
+// Every image that a pick gives, and those that mix them, opens as an epoch from `least` to `most`, where 0 stands for
+// nothing, and is no longer than the file.
+fn images_open(alloc: Global, disk: &MemDisk, least: u64, most: u64) -> Result<bool, NoMemory> {
+    for number in [0, 7, 71, 245] {
+        let image = disk.crash_image(alloc, Pick::Mixed(number))?;
+        if !is_expected(alloc, &image, least, most)? {
             return Ok(false);
+        }
+    }
+    let images = Images::new(alloc, disk)?;
+    let short = images.old.len();
+    let long = images.new.len();
+    for len in [short, short / 2 + long / 2, long] {
+        for gate in [Choice::Old, Choice::New, Choice::Open] {
+            for rest in [Choice::Old, Choice::New, Choice::Any, Choice::InTurn] {
+                let image = images.mixed(alloc, len, gate, rest)?;
+                if !is_expected(alloc, &image, least, most)? {
+                    return Ok(false);
+                }
+            }
         }
     }
     Ok(true)
 }
 
-// A creation and three puts on a disk that stops at that call: whether all were done, and whether
-// the images after each of them open as they should.
-fn run_until(alloc: Global, stop: u64) -> Result<(bool, bool), NoMemory> {
-    let (mut disk, store) = created(alloc, Some(stop))?;
-    let mut good = images_open(alloc, &disk, 0)?;
+fn is_expected(alloc: Global, image: &[u8], least: u64, most: u64) -> Result<bool, NoMemory> {
+    let stands = match open_bytes(alloc, image, &DIGEST)? {
+        Answer::Nothing => least == 0,
+        Answer::Last(epoch) => 0 < epoch && least <= epoch && epoch <= most,
+        Answer::Fault(_) => false,
+    };
+    Ok(stands && image.len() <= 100)
+}
+
+// A creation and four puts on a disk that stops at that call: whether all were done, and whether the images after each of
+// them open as they should.
+fn run_until(alloc: Global, bytes: &[u8], stop: u64) -> Result<(bool, bool), NoMemory>
+    requires { length bytes.now < 64 }
+{
+    let (mut disk, store) = created(alloc, bytes, Vec::new(alloc), Some(stop))?;
+    let mut good = images_open(alloc, &disk, 0, 0)?;
     let Ok(mut store) = store else {
         return Ok((false, good));
     };
-    for _ in 0..3 {
+    for _ in 0..4 {
         let last = store.last();
         let answer = put_next(alloc, &mut store, &mut disk);
-        good = good && images_open(alloc, &disk, last)?;
+        let next = u64::wrapping_add(last, 1);
+        let least = if answer.is_ok() { next } else { last };
+        good = good && images_open(alloc, &disk, least, next)?;
         if answer.is_err() {
             return Ok((
                 false,
@@ -250,15 +340,54 @@ fn run_until(alloc: Global, stop: u64) -> Result<(bool, bool), NoMemory> {
     Ok((true, good))
 }
 
-// A creation makes 10 calls, as its file is empty, the first two puts 6 each, as their slots are closed, and the third
-// one 8.
+// A creation makes 10 calls over an empty file, and 11 over one with an open gate. The first two puts make 6 each, as their
+// slots are closed, and the others 8.
 #[test]
 fn a_stop_at_each_call_leaves_the_last_kept_or_the_next(rt: HostRuntime) -> Result<(), Fail> {
     let alloc = rt.alloc();
-    for stop in 1..40 {
-        let (done, good) = run_until(alloc, stop)?;
+    for stop in 1..42 {
+        let (done, good) = run_until(alloc, &[], stop)?;
         assert!(rt; good);
-        assert_eq!(rt; done, stop > 30);
+        assert_eq!(rt; done, stop > 38);
+        let (done, good) = run_until(alloc, &[0x47], stop)?;
+        assert!(rt; good);
+        assert_eq!(rt; done, stop > 39);
     }
+    Ok(())
+}
+
+// A second snapshot whose gate was opened and not synced, then an open, with a sync before it or without, and a third
+// snapshot whose old gate was closed and not synced. These calls fail.
+fn resumed(alloc: Global, syncs: bool, fails: [u64; 2]) -> Result<(MemDisk, Answer), NoMemory> {
+    let fails = Vec::from_slice(alloc, &fails)?;
+    let (mut disk, store) = created(alloc, &[], fails, None)?;
+    let Ok(mut store) = store else {
+        return Ok((disk, Answer::Nothing));
+    };
+    let _first = put_next(alloc, &mut store, &mut disk);
+    let _second = put_next(alloc, &mut store, &mut disk);
+    if syncs && disk.sync().is_err() {
+        return Ok((disk, Answer::Nothing));
+    }
+    let shape = one_vertex(alloc)?;
+    let Ok(Opened::Last(mut store, snapshot)) = Store::open(alloc, &mut disk, &shape, &DIGEST)
+    else {
+        return Ok((disk, Answer::Nothing));
+    };
+    let _third = put_next(alloc, &mut store, &mut disk);
+    Ok((disk, Answer::Last(snapshot.epoch)))
+}
+
+// What is read and not synced may be lost, and with it what was kept before.
+#[test]
+fn a_sync_before_the_open_keeps_what_was_read(rt: HostRuntime) -> Result<(), Fail> {
+    let alloc = rt.alloc();
+    let (disk, answer) = resumed(alloc, false, [22, 28])?;
+    assert_eq!(rt; answer, Answer::Last(2));
+    let image = disk.crash_image(alloc, Pick::Mixed(0))?;
+    assert_eq!(rt; open_bytes(alloc, &image, &DIGEST)?, Answer::Nothing);
+    let (disk, answer) = resumed(alloc, true, [22, 29])?;
+    assert_eq!(rt; answer, Answer::Last(2));
+    assert!(rt; images_open(alloc, &disk, 2, 2)?);
     Ok(())
 }
