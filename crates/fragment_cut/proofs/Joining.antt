@@ -21,8 +21,8 @@ use Rattle.fragment_cut.proofs.RouteTables.{half_at, halves_len, owned_routes, r
 pub push_more : {X : Type 0} (f : ℕ → X) (n : ℕ) (old new : List X) (x : X) → new ≡ old ++ x ∷ [] → old ≡ map f (numbers_below n) → x ≡ f n → new ≡ map f (numbers_below (n + 1))
 push_more f n old new x e h g = e ∙ ap (λ l. l ++ x ∷ []) h ∙ ap (λ y. map f (numbers_below n) ++ y ∷ []) g ∙ sym (map-range_with_len_more f 0 n n (omega arith))
 
-pub owner_is : (job : Job) (v count id found : ℕ) → found ≡ owner_of job.settings.cut job.settings.fragments count v id → count ≡ count_of job.graph → id ≡ number_at job.graph v → found ≡ owner job v
-owner_is job v count id found e f g = e ∙ ap (λ n. owner_of job.settings.cut job.settings.fragments n v id) f ∙ ap (owner_of job.settings.cut job.settings.fragments (count_of job.graph) v) g
+pub owner_is : (job : Job) (v count id found : ℕ) → found ≡ owner_of job.settings.cut job.settings.fragments id v count → count ≡ count_of job.graph → id ≡ number_at job.graph v → found ≡ owner job v
+owner_is job v count id found e f g = e ∙ ap (owner_of job.settings.cut job.settings.fragments id v) f ∙ ap (λ n. owner_of job.settings.cut job.settings.fragments n v (count_of job.graph)) g
 
 -- a vector that is lent as a slice keeps its length
 pub still_long : (new items : List ℕ) (len n : ℕ) → len ≡ length items → length items ≡ n → length (take len (new ++ drop (length new) items)) ≡ n

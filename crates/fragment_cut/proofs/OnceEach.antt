@@ -13,7 +13,7 @@ use Rattle.graph_core.specs.Fragments.{owned_of, place_of, readings_of, fragment
 use Rattle.graph_core.proofs.Lists.{contains_here, contains_later}
 use Rattle.graph_core.proofs.Cutting as Cutting
 use Rattle.fragment_cut.specs.Cut.{no_fragment, fragment_at, OwnsAt, read_at, EachEquationOnce}
-use Rattle.fragment_cut.proofs.Placing.{read_stands, place_is}
+use Rattle.graph_core.proofs.FragmentPlaces.{read_stands, place_is}
 
 -- ---- sorting moves readings
 

@@ -17,50 +17,12 @@ use Rattle.graph_core.proofs.Lists.{contains_here, contains_later, contains_map}
 use Rattle.graph_core.proofs.Cutting as Cutting
 use Rattle.fragment_cut.specs.Filing.{Filed, reading_of, filed_under, table, reading_at, reads_table, file_under, filed_rows, with_place, turned}
 use Rattle.fragment_cut.specs.Owners.{StandOnce}
-use Rattle.fragment_cut.proofs.InOrder.{SameSums, sorted_same, sum_by-sorted_readings}
+use Rattle.graph_core.proofs.Sums.{sum-map, sum-flat_map, sum-same, sum-zero, sum_one, sum_range_same, sum_range_one, by_places, sum_by_places, sum_by-sorted_readings}
+use Rattle.graph_core.proofs.FragmentPlaces.{places_once, places_inside, read_stands, place_is, owned_placed}
+use Rattle.fragment_cut.proofs.InOrder.{SameSums, sorted_same}
 use Rattle.fragment_cut.proofs.SortedFiled.{sum_under}
 
--- ---- sums
-
-module _ {X Y : Type 0} where
-  pub sum-map : (g : Y → ℕ) (h : X → Y) (xs : List X) → sum_by g (map h xs) ≡ sum_by (λ x. g (h x)) xs
-  sum-map g h xs = fold-map (λ a y. a + g y) h 0 xs
-
-  pub sum-flat_map : (g : Y → ℕ) (h : X → List Y) (xs : List X) → sum_by g (flat_map h xs) ≡ sum_by (λ x. sum_by g (h x)) xs
-  sum-flat_map g h [] = refl
-  sum-flat_map g h (x ∷ xs) = omega (arith, sum_by-append g (h x) (flat_map h xs), sum-flat_map g h xs, sum_by-cons (λ y. sum_by g (h y)) x xs)
-
-module _ {X : Type 0} where
-  pub sum-same : (f g : X → ℕ) (xs : List X) → ((x : X) → Contains xs x → f x ≡ g x) → sum_by f xs ≡ sum_by g xs
-  sum-same f g [] h = refl
-  sum-same f g (x ∷ xs) h = omega (arith, sum_by-cons f x xs, sum_by-cons g x xs, h x (contains_here x xs), sum-same f g xs (λ y c. h y (contains_later x xs y c)))
-
-  sum-zero : (f : X → ℕ) (xs : List X) → ((x : X) → f x ≡ 0) → sum_by f xs ≡ 0
-  sum-zero f [] h = refl
-  sum-zero f (x ∷ xs) h = omega (arith, sum_by-cons f x xs, h x, sum-zero f xs h)
-
-sum_one : {X : Type 0} (f : X → ℕ) (x : X) → f x ≡ sum_by f (x ∷ [])
-sum_one f x = let e = sum_by-cons f x [] in omega (arith, e)
-
-sum_range_same : (f g : ℕ → ℕ) (a n : ℕ) → ((k : ℕ) → a ≤ k → k < a + n → f k ≡ g k) → sum_by f (range_with_len a n) ≡ sum_by g (range_with_len a n)
-sum_range_same f g a zero h = refl
-sum_range_same f g a (suc n) h = omega (arith, sum_by-cons f a (range_with_len (a + 1) n), sum_by-cons g a (range_with_len (a + 1) n), h a (omega arith) (omega arith), sum_range_same f g (a + 1) n (λ k l m. h k (omega (arith, l)) (omega (arith, m))))
-
-sum_range_none : (f : ℕ → ℕ) (p a n : ℕ) → ((k : ℕ) → k ≢ p → f k ≡ 0) → p < a → sum_by f (range_with_len a n) ≡ 0
-sum_range_none f p a zero h l = refl
-sum_range_none f p a (suc n) h l = omega (arith, sum_by-cons f a (range_with_len (a + 1) n), h a (omega arith), sum_range_none f p (a + 1) n h (omega (arith, l)))
-
--- a sum with one term
-sum_range_one : (f : ℕ → ℕ) (p a n : ℕ) → ((k : ℕ) → k ≢ p → f k ≡ 0) → a ≤ p → p < a + n → sum_by f (range_with_len a n) ≡ f p
-sum_range_one f p a zero h l m = absurd (omega (arith, l, m))
-sum_range_one f p a (suc n) h l m = elim (cases_eq a p) [
-  | inl e ↦ omega (arith, sum_by-cons f a (range_with_len (a + 1) n), ap f e, sum_range_none f p (a + 1) n h (omega (arith, e)))
-  | inr d ↦ omega (arith, sum_by-cons f a (range_with_len (a + 1) n), h a d, sum_range_one f p (a + 1) n h (omega (arith, l, d)) (omega (arith, m)))
-]
-
--- a list by its places
-pub by_places : (xs : List ℕ) → map (slice_index xs) (numbers_below (length xs)) ≡ xs
-by_places xs = sym (fill_by_all (slice_index xs) xs (length xs) 0 refl (λ k h. refl))
+-- ---- lists by place
 
 pub map_by_places : {Y : Type 0} (f : ℕ → Y) (xs : List ℕ) → map (λ p. f (slice_index xs p)) (numbers_below (length xs)) ≡ map f xs
 map_by_places f xs = ends (numbers_below (length xs)) ∙ ap (map f) (by_places xs)
@@ -69,9 +31,6 @@ map_by_places f xs = ends (numbers_below (length xs)) ∙ ap (map f) (by_places 
     ends [] = refl
     ends (p ∷ ps) = ap (λ l. f (slice_index xs p) ∷ l) (ends ps)
 
-sum_by_places : (f : ℕ → ℕ) (xs : List ℕ) → sum_by (λ p. f (slice_index xs p)) (numbers_below (length xs)) ≡ sum_by f xs
-sum_by_places f xs = sym (sum-map f (slice_index xs) (numbers_below (length xs))) ∙ ap (sum_by f) (by_places xs)
-
 map_range_same : {Y : Type 0} (f g : ℕ → Y) (a n : ℕ) → ((k : ℕ) → a ≤ k → k < a + n → f k ≡ g k) → map f (range_with_len a n) ≡ map g (range_with_len a n)
 map_range_same f g a zero h = refl
 map_range_same f g a (suc n) h = ap (λ y. y ∷ map f (range_with_len (a + 1) n)) (h a (omega arith) (omega arith)) ∙ ap (λ l. g a ∷ l) (map_range_same f g (a + 1) n (λ k l m. h k (omega (arith, l)) (omega (arith, m))))
@@ -79,47 +38,11 @@ map_range_same f g a (suc n) h = ap (λ y. y ∷ map f (range_with_len (a + 1) n
 -- ---- the fragment's places
 
 module _ (job : Job) (is : IsJob job) (i : ℕ) (small : i < job.settings.fragments) where
-  pieces-len : length (pieces_of job) ≡ job.settings.fragments
-  pieces-len = length-map-range_with_len (piece_of job) 0 job.settings.fragments
-
-  inside : i < length (pieces_of job)
-  inside = omega (arith, pieces-len, small)
-
-  at : piece_at (pieces_of job) i ≡ piece_of job i
-  at = get_or-map-range_with_len (piece_of job) 0 job.settings.fragments i i no_piece small (omega arith)
-
-  pub places_once : StandOnce (places_of job i)
-  places_once p q v h k =
-      (Cutting.fragments_cut job is).apart i p q v (subst (λ (x : Piece). StandsAt (places x) p v) (sym at) h) (subst (λ (x : Piece). StandsAt (places x) q v) (sym at) k)
-
-  pub places_inside : (p v : ℕ) → StandsAt (places_of job i) p v → v < count_of job.graph
-  places_inside p v h =
-      let r = (Cutting.fragments_cut job is).in_range i p inside (subst (λ (x : Piece). p < length (places x)) (sym at) h.0) in
-      let e = h.1 in
-      let f = ap (λ (x : Piece). slice_index (places x) p) at in
-      omega (arith, r, e, f)
-
-  pub read_stands : (p v : ℕ) (r : Read) → StandsAt (owned_of job i) p v → Contains (reads_of job.graph job.query v) r → (q : ℕ) × StandsAt (places_of job i) q r.vertex
-  read_stands p v r h c =
-      let w = (Cutting.fragments_cut job is).reads i p v r.vertex (inside, subst (λ (x : Piece). StandsAt x.owned p v) (sym at) h) (contains_map (λ (x : Read). x.vertex) (reads_of job.graph job.query v) r c) in
-      (w.0, subst (λ (x : Piece). StandsAt (places x) w.0 r.vertex) at w.1)
-
-  pub place_is : (p v : ℕ) → StandsAt (places_of job i) p v → place_of job i v ≡ p ∷ []
-  place_is p v h =
-      let vs = places_of job i in
-      let first : position_or_len (λ u. u == v) vs ≡ p = position_or_len_is (λ u. u == v) vs p 0 (omega (arith, h.0))
-      (λ k l. ne_eqb (slice_index vs k) v (λ e. let same = places_once k p v (omega (arith, l, h.0), e) h in omega (arith, same, l)))
-      (λ l. eq-eqb (slice_index vs p) v h.1) in
-      ap (λ q. option_to_list (cond (nat_lt q (length vs)) (Some q) None)) first ∙ ap (λ b. option_to_list (cond b (Some p) None)) (lt-ltb p (length vs) h.0)
-
   pub owned_stands : (p : ℕ) → p < length (owned_of job i) → StandsAt (owned_of job i) p (slice_index (owned_of job i) p)
   owned_stands p h = (h, refl)
 
-  pub owned_placed : (p v : ℕ) → StandsAt (owned_of job i) p v → StandsAt (places_of job i) p v
-  owned_placed p v h = Cutting.stands_left (owned_of job i) (mirrors_of job i) p v h
-
   pub owned_inside : (p v : ℕ) → StandsAt (owned_of job i) p v → v < count_of job.graph
-  owned_inside p v h = places_inside p v (owned_placed p v h)
+  owned_inside p v h = places_inside job is i small p v (owned_placed job is i small p v h)
 
   -- the row of an owned vertex in the table of all reads
   reads-row : (p : ℕ) → p < length (owned_of job i) → slice_index_or (reads_table job.graph job.query) (slice_index (owned_of job i) p) [] ≡ sorted_readings (map reading_at (reads_of job.graph job.query (slice_index (owned_of job i) p)))
@@ -149,8 +72,8 @@ module _ (job : Job) (is : IsJob job) (i : ℕ) (small : i < job.settings.fragme
 
     placed_read : (p : ℕ) → p < length (owned_of job i) → (r : Read) → Contains (reads_of job.graph job.query (vertex_at p)) r → place_of job i r.vertex ≡ slice_index P r.vertex ∷ []
     placed_read p h r c =
-        let s = read_stands p (vertex_at p) r (owned_stands p h) c in
-        place_is s.0 r.vertex s.1 ∙ ap (λ q. q ∷ []) (sym (right s.0 r.vertex s.1))
+        let s = read_stands job is i small p (vertex_at p) r (owned_stands p h) c in
+        place_is job is i small s.0 r.vertex s.1 ∙ ap (λ q. q ∷ []) (sym (right s.0 r.vertex s.1))
 
     -- a sum over what the fragment reads, by place
     sum-placed : (g : Filed → ℕ) → sum_by g (map (with_place P) filed_in) ≡ sum_by (λ p. sum_by (λ r. g (record { row = p; place = slice_index P r.vertex; weight = r.weight })) (reads_of job.graph job.query (vertex_at p))) (numbers_below (length (owned_of job i)))
@@ -180,11 +103,11 @@ module _ (job : Job) (is : IsJob job) (i : ℕ) (small : i < job.settings.fragme
     -- what stands at place q is u exactly where the place of u is q
     same_place : (q p : ℕ) (r : Read) → q < length (places_of job i) → p < length (owned_of job i) → Contains (reads_of job.graph job.query (vertex_at p)) r → (slice_index P r.vertex == q) ≡ (r.vertex == slice_index (places_of job i) q)
     same_place q p r l h c =
-        let s = read_stands p (vertex_at p) r (owned_stands p h) c in
+        let s = read_stands job is i small p (vertex_at p) r (owned_stands p h) c in
         let there = right s.0 r.vertex s.1 in
         elim (cases_eq s.0 q) [
           | inl e ↦ eq-eqb (slice_index P r.vertex) q (there ∙ e) ∙ sym (eq-eqb r.vertex (slice_index (places_of job i) q) (sym s.1.1 ∙ ap (slice_index (places_of job i)) e))
-          | inr d ↦ ne_eqb (slice_index P r.vertex) q (λ e. d (sym there ∙ e)) ∙ sym (ne_eqb r.vertex (slice_index (places_of job i) q) (λ e. d (places_once s.0 q r.vertex s.1 (l, sym e))))
+          | inr d ↦ ne_eqb (slice_index P r.vertex) q (λ e. d (sym there ∙ e)) ∙ sym (ne_eqb r.vertex (slice_index (places_of job i) q) (λ e. d (places_once job is i small s.0 q r.vertex s.1 (l, sym e))))
         ]
 
     reader_term : (f : Reading → ℕ) (p u : ℕ) (r : Read) (b : Bool) → place_of job i (vertex_at p) ≡ p ∷ [] → cond b (f (record { place = p; weight = r.weight })) 0 ≡ sum_by f (cond b (map (λ q. record { place = q; weight = r.weight }) (place_of job i (vertex_at p))) [])
@@ -204,7 +127,7 @@ module _ (job : Job) (is : IsJob job) (i : ℕ) (small : i < job.settings.fragme
         let h : p < length (owned_of job i) = omega (arith, m) in
         sum-same (λ r. cond (slice_index P r.vertex == q) (f (record { place = p; weight = r.weight })) 0) (λ r. sum_by f (inner (vertex_at p) r)) (reads_of job.graph job.query (vertex_at p))
         (λ r c. ap (λ b. cond b (f (record { place = p; weight = r.weight })) 0) (same_place q p r l h c)
-        ∙ reader_term f p u r (r.vertex == u) (place_is p (vertex_at p) (owned_placed p (vertex_at p) (owned_stands p h))))
+        ∙ reader_term f p u r (r.vertex == u) (place_is job is i small p (vertex_at p) (owned_placed job is i small p (vertex_at p) (owned_stands p h))))
         ∙ sym (sum-flat_map f (inner (vertex_at p)) (reads_of job.graph job.query (vertex_at p))))
         ∙ sum_by_places (λ w. sum_by f (row w)) (owned_of job i)
         ∙ sym (sum-flat_map f row (owned_of job i))

@@ -14,7 +14,7 @@ pub fn owner_of(settings: &Settings, id: u32, index: u32, count: u32) -> u32
     requires index { index < count }
     requires some { 1 ≤ settings.now.fragments }
     requires few { settings.now.fragments ≤ 64 }
-    ensures owner { result ≡ owner_of settings.now.cut settings.now.fragments count index id }
+    ensures owner { result ≡ owner_of settings.now.cut settings.now.fragments id index count }
     ensures inside { result < settings.now.fragments }
 {
     let fragments = u64::from(settings.fragments);

@@ -147,7 +147,7 @@ share_lt a b f hf h =
 pub owner-lt : (job : Job) (v : ℕ) → 0 < job.settings.fragments → v < count_of job.graph → owner job v < job.settings.fragments
 owner-lt job v hf h = go job.settings.cut
   where
-    go : (c : Cut) → owner_of c job.settings.fragments (count_of job.graph) v (number_at job.graph v) < job.settings.fragments
+    go : (c : Cut) → owner_of c job.settings.fragments (number_at job.graph v) v (count_of job.graph) < job.settings.fragments
     go Range = share_lt v (count_of job.graph) job.settings.fragments hf h
     go Hash = share_lt ((number_at job.graph v * 2654435769) % 2 ^ 32) (2 ^ 32) job.settings.fragments hf (mod-lt (number_at job.graph v * 2654435769) (omega arith))
 

@@ -6,17 +6,17 @@ use Rattle.graph_core.specs.declared.TheConstants.{FAR}
 use Rattle.graph_core.specs.Digraph.{Digraph}
 use Rattle.graph_core.specs.Graphs.{count_of, number_at, IsGraph}
 use Rattle.graph_core.specs.Walks.{IsWalkFrom, IsWeightOrFar, IsRelaxed}
-use Rattle.graph_core.specs.Meaning.{IsDistance}
+use Rattle.graph_core.specs.Meaning.{IsLeastWeight, IsDistance}
 use Rattle.graph_core.specs.Equations.{Assignment, IsGreatest}
 use Rattle.graph_core.specs.Queries.{Read, least_of, reads_of, start_value, right_side, equations_on}
 use Rattle.graph_core.specs.Theorems.{GreatestIsValues}
-use Rattle.graph_core.proofs.Lists.{least-top, least-le, least-cases}
+use Rattle.graph_core.proofs.Lists.{contains_here, contains_none, contains_cases, least-top, least-le, least-cases}
 use Rattle.graph_core.proofs.EdgeReads.{source_gives, source_from}
-use Rattle.graph_core.proofs.WalkLemmas.{ends_in, goes_on_from, weight-goes_on}
-use Rattle.graph_core.proofs.Relaxation.{relaxed_weights, distance-one}
+use Rattle.graph_core.proofs.WalkLemmas.{ends_in, ends_at_vertex, goes_on_from, weight-goes_on}
+use Rattle.graph_core.proofs.Relaxation.{relaxed_weights, relaxed-near, distance-one}
 use Rattle.graph_core.proofs.Sources.{zero-at_most, zero-cases, zero-at}
 use Rattle.graph_core.proofs.Lawful.{lawful}
-use Rattle.graph_core.proofs.Greatest.{greatest_has, greatest_from_values}
+use Rattle.graph_core.proofs.Greatest.{greatest_is_there, greatest_has, greatest_from_values}
 
 module _ (g : Digraph) (source : ℕ) (h : IsGraph g) where
   abbrev from : List ℕ
@@ -72,3 +72,33 @@ module _ (g : Digraph) (source : ℕ) (h : IsGraph g) where
 
   pub distance-meaning : GreatestIsValues g (Dist source)
   distance-meaning x = (distance-value x, greatest_from_values (equations_on g (Dist source)) (lawful g (Dist source) h) (IsDistance g from) (distance-one g from) distance-value x)
+
+  -- a distance along a walk is less than FAR
+  near : (v n : ℕ) → IsLeastWeight g from v n → n < FAR
+  near v n d =
+      let walk = d.leads in
+      let l = ends_at_vertex g walk.0 v d.walk h walk.1 walk.3 in
+      let there = greatest_is_there (equations_on g (Dist source)) (lawful g (Dist source) h) in
+      let x : Assignment = there.0 in
+      let same : x v ≡ n = distance-one g from v (x v) n (distance-value x there.1 v l) (inl d) in
+      subst (λ m. m < FAR) same (relaxed-near g from h x (relaxed x there.1) v d.walk l walk)
+
+-- the source at which the least walk begins is as near as all of them
+one_source : (g : Digraph) (sources : List ℕ) (v n : ℕ) → (d : IsLeastWeight g sources v n) → IsLeastWeight g (number_at g d.leads.0 ∷ []) v n
+one_source g sources v n d = record {
+  walk = d.walk;
+  leads = (d.leads.0, d.leads.1, contains_here (number_at g d.leads.0) [], d.leads.3);
+  weighs = d.weighs;
+  least = λ other o. d.least other (
+    o.0,
+    o.1,
+    elim (contains_cases (number_at g d.leads.0) [] (number_at g o.0) o.2) [
+      | inl e ↦ subst (λ s. Contains sources s) e d.leads.2
+      | inr c ↦ contains_none (number_at g o.0) c
+    ],
+    o.3,
+  );
+}
+
+pub distance-near : (g : Digraph) (sources : List ℕ) (v n : ℕ) → IsGraph g → IsLeastWeight g sources v n → n < FAR
+distance-near g sources v n h d = near g (number_at g d.leads.0) h v n (one_source g sources v n d)

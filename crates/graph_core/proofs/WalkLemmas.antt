@@ -15,6 +15,11 @@ ends_in g e h c = All-contains (λ (d : Edge). (d.from < count_of g) × (d.to < 
 pub weight_in : (g : Digraph) (e : Edge) → IsGraph g → Contains g.edges e → e.weight < 4294967296
 weight_in g e h c = All-contains (λ (d : Edge). d.weight < 4294967296) g.edges e h.weights c
 
+-- a walk from a vertex ends at one
+pub ends_at_vertex : (g : Digraph) (u v : ℕ) (walk : List Edge) → IsGraph g → u < count_of g → IsWalk g u v walk → v < count_of g
+ends_at_vertex g u v [] h l w = subst (λ n. n < count_of g) w l
+ends_at_vertex g u v (e ∷ walk) h l w = ends_at_vertex g e.to v walk h (ends_in g e h w.0).1 w.2
+
 -- ---- a walk goes on by an edge that begins where it ends
 
 pub goes_on : (g : Digraph) (u : ℕ) (walk : List Edge) (e : Edge) → IsWalk g u e.from walk → Contains g.edges e → IsWalk g u e.to (walk ++ e ∷ [])

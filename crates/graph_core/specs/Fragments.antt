@@ -11,13 +11,13 @@ use Rattle.graph_core.specs.Parts.{FragmentLists}
 use Rattle.graph_core.specs.Equations.{Equations}
 use Rattle.graph_core.specs.Queries.{reads_of, equations_of}
 
--- the fragment of the vertex with this index and number, of f fragments over n vertices
+-- of f fragments over n vertices, that of the vertex with this number and index
 abbrev pub owner_of : Cut → ℕ → ℕ → ℕ → ℕ → ℕ
-owner_of Range f n index number = (index * f) / n
-owner_of Hash f n index number = (((number * 2654435769) % 2 ^ 32) * f) / 2 ^ 32
+owner_of Range f number index n = (index * f) / n
+owner_of Hash f number index n = (((number * 2654435769) % 2 ^ 32) * f) / 2 ^ 32
 
 abbrev pub owner : Job → ℕ → ℕ
-owner job v = owner_of job.settings.cut job.settings.fragments (count_of job.graph) v (number_at job.graph v)
+owner job v = owner_of job.settings.cut job.settings.fragments (number_at job.graph v) v (count_of job.graph)
 
 -- 0 up to n
 abbrev pub numbers_below : ℕ → List ℕ

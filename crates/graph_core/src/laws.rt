@@ -6,10 +6,10 @@ ghost use Rattle.graph_core.specs.declared.query.Query.{Query};
 ghost use Rattle.graph_core.specs.declared.job.Job.{Job};
 ghost use Rattle.graph_core.specs.declared.query.Query.TheVariants.{Dist, Label, Reach};
 ghost use Rattle.graph_core.specs.Walks.{IsWalk, IsWalkFrom, walk_weight, IsWeightOrFar, IsRelaxed};
-ghost use Rattle.graph_core.specs.Meaning.{IsDistance, AreValues};
+ghost use Rattle.graph_core.specs.Meaning.{IsLeastWeight, IsDistance, AreValues};
 ghost use Rattle.graph_core.specs.Equations.{Assignment, Equations, AreLawful, IsGreatest};
 ghost use Rattle.graph_core.specs.Queries.{equations_on, equations_of};
-ghost use Rattle.graph_core.specs.Theorems.{GreatestIsValues, GreatestIsMeaning};
+ghost use Rattle.graph_core.specs.Theorems.{GreatestIsValues, GreatestIsMeaning, BelowStartsRulesDecide, ReadersAreTurnedReadings};
 ghost use Rattle.graph_core.specs.Fragments.{FragmentsCut, fragment_of};
 ghost use Rattle.graph_core.specs.Parts.{IsFragment};
 
@@ -33,6 +33,11 @@ pub fn fragments_are_whole()
     ensures { (job : Job) (i : ℕ) → IsFragment (fragment_of job i) }
 {}
 
+/// The readers of a fragment's places are its readings turned round, each as often.
+pub fn readers_are_turned_readings()
+    ensures { (job : Job) (i : ℕ) → IsJob job → i < job.settings.fragments → ReadersAreTurnedReadings (fragment_of job i) }
+{}
+
 /// No walk weighs less than the relaxed value of its end.
 pub fn no_walk_is_shorter()
     ensures { (g : Digraph) (sources : List ℕ) (x : ℕ → ℕ) (v : ℕ) (walk : List Edge) → IsRelaxed g sources x → IsWalkFrom g sources v walk → x v ≤ walk_weight walk }
@@ -53,10 +58,20 @@ pub fn one_distance()
     ensures { (g : Digraph) (sources : List ℕ) (v m n : ℕ) → IsDistance g sources v m → IsDistance g sources v n → m ≡ n }
 {}
 
+/// A distance along a walk is less than `FAR`, which stands for none.
+pub fn distances_are_near()
+    ensures { (g : Digraph) (sources : List ℕ) (v n : ℕ) → IsGraph g → IsLeastWeight g sources v n → n < FAR }
+{}
+
 /// The equations of every query on a graph within its limits are lawful.
 pub fn equations_are_lawful()
     ensures any_query { (g : Digraph) (q : Query) → IsGraph g → AreLawful (equations_on g q) }
     ensures job { (job : Job) → IsJob job → AreLawful (equations_of job) }
+{}
+
+/// Below the starts an equation asks of a value what the query's rule asks, where the start is left out.
+pub fn below_starts_rules_decide()
+    ensures { (g : Digraph) (q : Query) → BelowStartsRulesDecide g q }
 {}
 
 /// Lawful equations have one greatest solution.

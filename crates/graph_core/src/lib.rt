@@ -23,9 +23,10 @@ pub use fragment::{Fragment, FragmentParts, Reading, Route};
 pub use graph::Graph;
 pub use job::Job;
 pub use laws::{
-    equations_are_lawful, fragments_are_whole, fragments_cut, greatest_is_meaning,
-    greatest_is_there, made_graph_is_one, no_walk_is_shorter, one_distance,
-    relaxed_weights_are_distances, values_are_there, walk_goes_on,
+    below_starts_rules_decide, distances_are_near, equations_are_lawful, fragments_are_whole,
+    fragments_cut, greatest_is_meaning, greatest_is_there, made_graph_is_one, no_walk_is_shorter,
+    one_distance, readers_are_turned_readings, relaxed_weights_are_distances, values_are_there,
+    walk_goes_on,
 };
 pub use pattern::{Pattern, PatternLink, PatternNode};
 pub use query::Query;

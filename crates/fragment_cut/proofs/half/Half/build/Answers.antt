@@ -5,7 +5,8 @@ use Rattle.graph_core.specs.Graphs.{count_of}
 use Rattle.graph_core.specs.Fragments.{owned_of, mirrors_of, places_of, StandsAt}
 use Rattle.fragment_cut.specs.Filing.{Filed, reads_table, filed_rows, with_place, turned, table}
 use Rattle.fragment_cut.specs.Owners.{StandOnce}
-use Rattle.fragment_cut.proofs.Placing.{few_owned, few_mirrors, all_owned_inside, all_places_inside, places_once, filed_inside}
+use Rattle.graph_core.proofs.FragmentPlaces.{places_once}
+use Rattle.fragment_cut.proofs.Placing.{few_owned, few_mirrors, all_owned_inside, all_places_inside, filed_inside}
 use Rattle.fragment_cut.proofs.HalfBuilt.{all_at, both_are, filed_is, placed_rows, turned_rows, half_is, written}
 use Rattle.fragment_cut.proofs.half.Half.build.Goals as goal
 
