@@ -67,14 +67,18 @@ local_solution e owned mirrors xs = after_steps e owned mirrors (sum_by (height_
 
 -- ---- what evaluation is given
 
--- the values after each mirror was lowered by the hand
+-- values, each lowered by the one of the hand
 abbrev pub met : Order → List ℕ → List ℕ → List ℕ
 met o [] hand = []
 met o (x ∷ xs) [] = x ∷ xs
 met o (x ∷ xs) (a ∷ hand) = meet_of o x a ∷ met o xs hand
 
+-- the values of a fragment after each mirror was lowered by the hand
+abbrev pub mirrors_lowered : Order → List ℕ → List ℕ → List ℕ → List ℕ
+mirrors_lowered o owned xs hand = take (length owned) xs ++ met o (drop (length owned) xs) hand
+
 abbrev pub lowered : Equations → List ℕ → List ℕ → List ℕ → List ℕ
-lowered e owned xs hand = take (length owned) xs ++ met e.order (drop (length owned) xs) hand
+lowered e = mirrors_lowered e.order
 
 -- the start values of these vertices
 abbrev pub starts_of : Equations → List ℕ → List ℕ

@@ -9,7 +9,7 @@ use graph_core::Fragment;
 use message_buffer::Hand;
 
 /// What a lane does with the values and the hand of a Take: `peval` where they are fresh, and then `inceval` where the
-/// hand isn't empty. It leaves the local solution of the values lowered by the hand. Takes no memory.
+/// hand isn't empty. It leaves the local solution of the values lowered by the hand.
 pub fn evaluate<P: Pie>(program: &P, part: &Fragment, fresh: bool, local: &mut Local, hand: &Hand)
     requires { (job : Job) × P.is_for program.now job × MayEvaluate (P.equations program.now job) job part.now fresh local.old (P.counters_for job) hand.now }
     ensures solution { (job : Job) → P.is_for program.now job → MayEvaluate (P.equations program.now job) job part.now fresh local.old (P.counters_for job) hand.now →

@@ -1,5 +1,6 @@
-ghost use Rattle.std.specs.Prelude.{◌≡◌, ◌<◌, ◌↔◌, ◌+◌, ◌*◌, ◌++◌, ◌∷◌, [], length, replicate, IfOk, IfSome, IsNone};
+ghost use Rattle.std.specs.Prelude.{◌≡◌, ℕ, ◌<◌, ◌≤◌, ◌↔◌, true, ◌+◌, ◌*◌, ◌++◌, ◌∷◌, [], length, replicate, IfOk, IfSome, IsNone};
 ghost use Rattle.std.specs.Borrow.{sem};
+ghost use Rattle.pie_core.specs.PlaceLists.{waits};
 ghost use Rattle.pie_core.specs.Locals.{IsLocal};
 ghost use Rattle.pie_core.specs.LocalCalls.{new_local, loaded, settled, with_value, with_waiting, TakesOldest};
 ghost use Rattle.pie_core.specs.LocalLends.{LendsCounters};
@@ -11,8 +12,8 @@ use std::alloc::Global;
 use std::marker::Model;
 
 /// The values of all places of a fragment, and what a program needs to evaluate it: the owned values as they were
-/// before, counters of the program's own, and a worklist of owned places. All memory is taken by `new`, so that
-/// evaluation takes none. Contracts see these four lists.
+/// before, counters of the program's own, and a worklist of owned places. All memory is taken by `new`: no
+/// other call has an answer for want of it. Contracts see these four lists.
 #[derive(Drop)]
 pub struct Local {
     values: Vec<u64>,
@@ -100,6 +101,17 @@ impl Local {
         ensures local { IsLocal self.new }
     {
         self.worklist.push(place);
+    }
+
+    /// Adds each place below `end`, all of them owned.
+    pub fn enqueue_below(&mut self, end: u32)
+        requires { end ≤ length self.old.before }
+        ensures rest { self.new ≡ record self.old { waiting = self.new.waiting } }
+        ensures waits { (place : ℕ) → place < end → waits self.new.waiting place ≡ true }
+    {
+        'list: for place in 0..end {
+            self.enqueue(place);
+        }
     }
 
     /// Takes the oldest place from the worklist. `None` comes exactly where it is empty.

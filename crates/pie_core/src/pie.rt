@@ -32,7 +32,7 @@ pub trait Pie: Drop {
         ensures { (job : Job) → is_for self.now job → result ≡ counters_for job };
 
     /// Evaluates a fragment of the job: leaves the local solution of the values at entry, which lie below the starts.
-    /// Takes no memory. What stands in the counters and in the worklist afterwards is the program's own.
+    /// What stands in the counters and in the worklist afterwards is the program's own.
     fn peval(&self, part: &Fragment, local: &mut Local)
         requires { (job : Job) × is_for self.now job × IsReadyFor (equations self.now job) job part.now local.old (counters_for job) }
         ensures solution { (job : Job) → is_for self.now job → IsReadyFor (equations self.now job) job part.now local.old (counters_for job) →
@@ -42,7 +42,7 @@ pub trait Pie: Drop {
         ensures counters { length local.new.counters ≡ length local.old.counters };
 
     /// Evaluates a fragment of the job again: lowers each mirror by the hand, and leaves the local solution of that. The
-    /// values at entry lie below the starts and, on the owned places, below their own equations. Takes no memory.
+    /// values at entry lie below the starts and, on the owned places, below their own equations.
     fn inceval(&self, part: &Fragment, local: &mut Local, hand: &Hand)
         requires { (job : Job) × is_for self.now job × IsReadyAgain (equations self.now job) job part.now local.old (counters_for job) hand.now }
         ensures solution { (job : Job) → is_for self.now job → IsReadyAgain (equations self.now job) job part.now local.old (counters_for job) hand.now →

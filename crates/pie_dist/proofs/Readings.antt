@@ -10,13 +10,13 @@ use Rattle.graph_core.specs.Graphs.{IsJob}
 use Rattle.graph_core.specs.Parts.{FragmentLists, place_count}
 use Rattle.graph_core.specs.Queries.{equations_of}
 use Rattle.graph_core.specs.Fragments.{owned_of, mirrors_of, places_of, fragment_of}
-use Rattle.pie_core.specs.Locals.{LocalValues}
+use Rattle.pie_core.specs.Locals.{LocalValues, FitsPart}
 use Rattle.pie_core.specs.LocalCalls.{with_value}
 use Rattle.pie_core.specs.Solutions.{IsReadyFor}
 use Rattle.pie_core.proofs.Bridge.{in_readers_row, from_readers_row, in_readings_row, from_readings_row}
 use Rattle.pie_dist.specs.DistJobs.{IsDistJob}
 use Rattle.pie_lowering.specs.LeastEquations.{whole_weight}
-use Rattle.pie_lowering.specs.Lowering.{LieBelow, IsRelaxed, FitsPart, HasFallen}
+use Rattle.pie_lowering.specs.Lowering.{LieBelow, HoldsAllReaders, HasFallen}
 use Rattle.pie_dist.specs.ByReadings.{RowsMatch, IsLeastAt, HoldsReadings, HasLoweredPlace, HasPassed}
 use Rattle.pie_lowering.proofs.Steps.{fallen-refl, fallen-trans}
 
@@ -104,7 +104,7 @@ place-falls part old p least fits rows p_owned h l = record {
     elsewhere : (v : ℕ) → v ≢ p → slice_index (with_value old p least).values v ≡ slice_index old.values v
     elsewhere v d = get_or-set_other old.values p v least 0 d
 
-    under : (ys : List ℕ) → IsRelaxed whole_weight part ys → LieBelow ys old.values → slice_index ys p ≤ least
+    under : (ys : List ℕ) → HoldsAllReaders whole_weight part ys → LieBelow ys old.values → slice_index ys p ≤ least
     under ys r low = elim h.attained [
       | inl own ↦ omega (arith, low p, own)
       | inr w ↦

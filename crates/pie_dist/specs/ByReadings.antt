@@ -4,7 +4,7 @@ use Rattle.graph_core.specs.declared.fragment.Reading.{Reading}
 use Rattle.graph_core.specs.Parts.{FragmentLists, place_count}
 use Rattle.pie_core.specs.Locals.{LocalValues}
 use Rattle.pie_lowering.specs.LeastEquations.{whole_weight}
-use Rattle.pie_lowering.specs.Lowering.{HasFallen, IsRelaxed}
+use Rattle.pie_lowering.specs.Lowering.{HasFallen, HoldsAllReaders}
 
 -- The rows of readings and of readers say the same: a place stands among the readers of each place that it reads, and reads each place among whose readers it stands.
 pub record RowsMatch (part : FragmentLists) : Type 0 where
@@ -34,4 +34,4 @@ pub record HasLoweredPlace (part : FragmentLists) (old new : LocalValues) (p : �
 pub record HasPassed (part : FragmentLists) (old new : LocalValues) (fell : Bool) : Type 0 where
   pub fallen : HasFallen whole_weight part old new
   pub less : fell ≡ true → sum new.values < sum old.values
-  pub relaxed : fell ≡ false → IsRelaxed whole_weight part new.values
+  pub relaxed : fell ≡ false → HoldsAllReaders whole_weight part new.values

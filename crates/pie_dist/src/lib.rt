@@ -1,6 +1,6 @@
 //! Distances on one fragment: the sequential algorithm that a worker runs on its own part of the graph.
 //!
-//! It promises that both calls leave the local solution of the equations of distances, and take no memory. The greatest
+//! It promises that both calls leave the local solution of the equations of distances. The greatest
 //! solution of these equations is exactly the distances: `dist_equations`. Values are lowered by `pie_lowering`.
 #![tactic(auto)]
 

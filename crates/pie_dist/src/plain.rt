@@ -3,9 +3,10 @@
 
 ghost use Rattle.std.specs.Prelude.{◌≡◌, ℕ, ◌<◌, false, length, min, slice_index};
 ghost use Rattle.graph_core.specs.Parts.{place_count};
+ghost use Rattle.pie_core.specs.Locals.{FitsPart};
 ghost use Rattle.pie_core.specs.LocalCalls.{with_value};
 ghost use Rattle.pie_lowering.specs.LeastEquations.{whole_weight};
-ghost use Rattle.pie_lowering.specs.Lowering.{AreAtMostFar, FitsPart, HasFallen, IsRelaxed, with_mirrors};
+ghost use Rattle.pie_lowering.specs.Lowering.{AreAtMostFar, HasFallen, HoldsAllReaders, with_mirrors};
 ghost use Rattle.pie_dist.specs.ByReadings.{HasLoweredPlace, HasPassed, IsLeastAt, RowsMatch};
 
 use graph_core::Fragment;
@@ -105,7 +106,7 @@ fn lower_to_solution(part: &Fragment, local: &mut Local)
     requires at_most_far { AreAtMostFar local.old.values }
     requires rows_match { RowsMatch part.now }
     ensures fallen { HasFallen whole_weight part.now local.old local.new }
-    ensures relaxed { IsRelaxed whole_weight part.now local.new.values }
+    ensures relaxed { HoldsAllReaders whole_weight part.now local.new.values }
 {
     'passes: while lower_by_readings(part, local) {}
 }

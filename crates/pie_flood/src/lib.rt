@@ -1,7 +1,7 @@
 //! Labels and reachability on one fragment: what a worker runs on its own part of the graph, as values flood along the
 //! readings.
 //!
-//! It promises that both calls of either program leave the local solution of its equations, and take no memory. The
+//! It promises that both calls of either program leave the local solution of its equations. The
 //! greatest solution of these equations is exactly the least numbers of joined vertices (`label_equations`), or exactly
 //! which vertices a walk from the source reaches (`reach_equations`). Values are lowered by `pie_lowering`.
 #![tactic(auto)]

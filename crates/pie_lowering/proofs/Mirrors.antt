@@ -5,10 +5,10 @@ use Rattle.std.proofs.lemmas.Bool.{cases_eq, cases_lt}
 use Rattle.std.proofs.lemmas.List.{get_or-set_same, get_or-set_other, length-set, set-get_or, take-append-drop}
 use Rattle.value_order.specs.declared.order.Order.TheVariants.{Least}
 use Rattle.graph_core.specs.Parts.{FragmentLists}
-use Rattle.pie_core.specs.Locals.{LocalValues}
+use Rattle.pie_core.specs.Locals.{LocalValues, FitsPart}
 use Rattle.pie_core.specs.LocalCalls.{with_value}
 use Rattle.pie_core.specs.Solutions.{met}
-use Rattle.pie_lowering.specs.Lowering.{LieBelow, AreAtMostFar, HoldsReaders, IsSettled, FitsPart, HasFallen, WaitWhereFell, with_mirrors}
+use Rattle.pie_lowering.specs.Lowering.{LieBelow, AreAtMostFar, HoldsReaders, IsSettled, HasFallen, WaitWhereFell, with_mirrors}
 use Rattle.pie_lowering.proofs.Steps.{fallen-trans, holds-kept, place-settled}
 
 -- ---- one mirror

@@ -19,13 +19,13 @@ use Rattle.graph_core.proofs.Sources.{zero-at_most}
 use Rattle.graph_core.proofs.Cutting.{stands_left}
 use Rattle.value_order.specs.Order.{Below}
 use Rattle.message_buffer.specs.HandValues.{HandValues}
-use Rattle.pie_core.specs.Locals.{LocalValues}
+use Rattle.pie_core.specs.Locals.{LocalValues, FitsPart}
 use Rattle.pie_core.specs.Solutions.{value_at, AllBelow, OwnEquationsHold, IsLocalSolution, IsReadyFor, IsReadyAgain, starts_of, met, lowered}
 use Rattle.pie_core.proofs.Lists.{drop-same}
 use Rattle.pie_core.proofs.Starting.{few-places}
 use Rattle.pie_core.proofs.Bridge.{Reads, in_readers_row, from_readers_row, value-at_place, read_stands}
 use Rattle.pie_lowering.specs.LeastEquations.{least_equations, IsLeastJob}
-use Rattle.pie_lowering.specs.Lowering.{LieBelow, AreAtMostFar, IsRelaxed, IsSettled, FitsPart, HasFallen, with_mirrors}
+use Rattle.pie_lowering.specs.Lowering.{LieBelow, AreAtMostFar, HoldsAllReaders, IsSettled, HasFallen, with_mirrors}
 use Rattle.pie_lowering.proofs.Mirrors.{lowered-length}
 
 -- ---- lists place by place
@@ -60,7 +60,7 @@ module _ (cost : ℕ → ℕ) (job : Job) where
     places-length = length-append (owned_of job i) (mirrors_of job i)
 
     -- relaxed values that lie below the starts lie below their own equations
-    pub relaxed-hold : (xs : List ℕ) → AllBelow Least xs (starts_of least (places_of job i)) → IsRelaxed cost whole xs → OwnEquationsHold least (owned_of job i) (mirrors_of job i) xs
+    pub relaxed-hold : (xs : List ℕ) → AllBelow Least xs (starts_of least (places_of job i)) → HoldsAllReaders cost whole xs → OwnEquationsHold least (owned_of job i) (mirrors_of job i) xs
     relaxed-hold xs low relaxed p l =
         let v = slice_index (owned_of job i) p in
         let here : StandsAt (owned_of job i) p v = (l, refl) in
@@ -80,7 +80,7 @@ module _ (cost : ℕ → ℕ) (job : Job) where
         le-least (start v) (λ (r : Read). x r.vertex + cost r.weight) reads (slice_index xs p) (omega (arith, under, first, at)) each
 
     -- values that lie below their own equations are relaxed
-    pub hold-relaxed : (xs : List ℕ) → OwnEquationsHold least (owned_of job i) (mirrors_of job i) xs → IsRelaxed cost whole xs
+    pub hold-relaxed : (xs : List ℕ) → OwnEquationsHold least (owned_of job i) (mirrors_of job i) xs → HoldsAllReaders cost whole xs
     hold-relaxed xs hold q l e c =
         let reads : Reads job i is_job in_job e.place q e.weight = from_readers_row job i is_job in_job q e (omega (arith, l, places-length)) c in
         let v = reads.vertex in
@@ -92,7 +92,7 @@ module _ (cost : ℕ → ℕ) (job : Job) where
         omega (arith, own, low, value-at_place job i is_job in_job xs q r.vertex reads.at, ap cost reads.weighs)
 
     -- so values that fell as far as they had to are the local solution
-    pub fallen-solution : (old new : LocalValues) → AllBelow Least old.values (starts_of least (places_of job i)) → HasFallen cost whole old new → IsRelaxed cost whole new.values
+    pub fallen-solution : (old new : LocalValues) → AllBelow Least old.values (starts_of least (places_of job i)) → HasFallen cost whole old new → HoldsAllReaders cost whole new.values
         → IsLocalSolution least (owned_of job i) (mirrors_of job i) old.values new.values
     fallen-solution old new low fell relaxed =
         let starts = starts_of least (places_of job i) in
@@ -171,15 +171,15 @@ module _ (cost : ℕ → ℕ) (job : Job) (is_least : IsLeastJob cost job) where
       below-far (start_value job.graph job.query) (part.owned ++ part.mirrors) local.values (λ v. start-far job.graph job.query v is_least.is_job.graph order) (low-least (part.owned ++ part.mirrors) local.values ready.below_start)
 
   part-solution : (part : FragmentLists) (old new : LocalValues) → part.number < job.settings.fragments → part ≡ fragment_of job part.number → AllBelow Least old.values (starts_of (least_equations cost job.graph job.query) (part.owned ++ part.mirrors))
-      → HasFallen cost part old new → IsRelaxed cost part new.values → IsLocalSolution (equations_of job) part.owned part.mirrors old.values new.values
+      → HasFallen cost part old new → HoldsAllReaders cost part new.values → IsLocalSolution (equations_of job) part.owned part.mirrors old.values new.values
   part-solution part old new in_job is_part low fell relaxed =
       let e = least_equations cost job.graph job.query in
-      let P : FragmentLists → Type 0 = λ p. AllBelow Least old.values (starts_of e (p.owned ++ p.mirrors)) → HasFallen cost p old new → IsRelaxed cost p new.values → IsLocalSolution e p.owned p.mirrors old.values new.values in
+      let P : FragmentLists → Type 0 = λ p. AllBelow Least old.values (starts_of e (p.owned ++ p.mirrors)) → HasFallen cost p old new → HoldsAllReaders cost p new.values → IsLocalSolution e p.owned p.mirrors old.values new.values in
       let solution = subst P (sym is_part) (fallen-solution cost job is_least.is_job part.number in_job old new) low fell relaxed in
       subst (λ (e : Equations). IsLocalSolution e part.owned part.mirrors old.values new.values) (sym is_least.equations) solution
 
   -- what an evaluation leaves
-  pub fallen-solves : (part : FragmentLists) (old new : LocalValues) (n : ℕ) → IsReadyFor (equations_of job) job part old n → HasFallen cost part old new → IsRelaxed cost part new.values
+  pub fallen-solves : (part : FragmentLists) (old new : LocalValues) (n : ℕ) → IsReadyFor (equations_of job) job part old n → HasFallen cost part old new → HoldsAllReaders cost part new.values
       → IsLocalSolution (equations_of job) part.owned part.mirrors old.values new.values
   fallen-solves part old new n ready = part-solution part old new ready.number ready.is_part (low-least (part.owned ++ part.mirrors) old.values ready.below_start)
 
@@ -192,7 +192,7 @@ module _ (cost : ℕ → ℕ) (job : Job) (is_least : IsLeastJob cost job) where
       subst P (sym again.ready.is_part) (λ h q l. inr (hold-relaxed cost job is_least.is_job part.number again.ready.number local.values h q l)) hold
 
   -- and what it leaves
-  pub again-solves : (part : FragmentLists) (old new : LocalValues) (n : ℕ) (hand : HandValues) → IsReadyAgain (equations_of job) job part old n hand → HasFallen cost part (with_mirrors part old hand.values) new → IsRelaxed cost part new.values
+  pub again-solves : (part : FragmentLists) (old new : LocalValues) (n : ℕ) (hand : HandValues) → IsReadyAgain (equations_of job) job part old n hand → HasFallen cost part (with_mirrors part old hand.values) new → HoldsAllReaders cost part new.values
       → IsLocalSolution (equations_of job) part.owned part.mirrors (lowered (equations_of job) part.owned old.values hand.values) new.values
   again-solves part old new n hand again fell relaxed =
       let e = least_equations cost job.graph job.query in

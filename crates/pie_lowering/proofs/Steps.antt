@@ -7,10 +7,10 @@ use Rattle.std.proofs.lemmas.List.Sums.{sum_by-set}
 use Rattle.graph_core.specs.declared.fragment.Reading.{Reading}
 use Rattle.graph_core.specs.Parts.{FragmentLists, place_count}
 use Rattle.pie_core.specs.PlaceLists.{waits}
-use Rattle.pie_core.specs.Locals.{LocalValues}
+use Rattle.pie_core.specs.Locals.{LocalValues, FitsPart}
 use Rattle.pie_core.specs.LocalCalls.{with_value, with_waiting, TakesOldest}
 use Rattle.pie_core.proofs.Places.{waits_on, waits_new, still_waits}
-use Rattle.pie_lowering.specs.Lowering.{LieBelow, AreAtMostFar, HoldsReaders, IsRelaxed, IsSettled, FitsPart, lowered_to, HasFallen, work_left, WaitWhereFell}
+use Rattle.pie_lowering.specs.Lowering.{LieBelow, AreAtMostFar, HoldsReaders, HoldsAllReaders, IsSettled, lowered_to, HasFallen, work_left, WaitWhereFell}
 
 -- at most one place more waits
 one_more : (waiting : List ℕ) (p : ℕ) → length (if waits waiting p then waiting else waiting ++ p ∷ []) ≤ length waiting + 1
@@ -171,7 +171,7 @@ popped-less old mid new place taken w =
     let n = ap length taken.0 in
     omega (arith, w.no_more, s, n)
 
-pub none-relaxed : (cost : ℕ → ℕ) (part : FragmentLists) (local : LocalValues) → local.waiting ≡ [] → IsSettled cost part local → IsRelaxed cost part local.values
+pub none-relaxed : (cost : ℕ → ℕ) (part : FragmentLists) (local : LocalValues) → local.waiting ≡ [] → IsSettled cost part local → HoldsAllReaders cost part local.values
 none-relaxed cost part local none h q l = elim (h q l) [
   | inl k ↦ absurd (let x : false ≡ true = subst (λ ws. waits ws q ≡ true) none k in cc)
   | inr k ↦ k

@@ -1,5 +1,5 @@
 -- Values of a fragment on their way down to the local solution.
-use Rattle.std.specs.Prelude.{◌≡◌, ℕ, ◌+◌, ◌*◌, ◌^◌, ◌<◌, ◌≤◌, ◌⊎◌, true, if◌then◌else◌, nat_lt, List, [], ◌++◌, length, take, drop, slice_index, slice_index_or, Contains, sum}
+use Rattle.std.specs.Prelude.{◌≡◌, ℕ, ◌+◌, ◌*◌, ◌<◌, ◌≤◌, ◌⊎◌, true, if◌then◌else◌, nat_lt, List, [], length, slice_index, slice_index_or, Contains, sum}
 use Rattle.value_order.specs.declared.order.Order.TheVariants.{Least}
 use Rattle.graph_core.specs.declared.TheConstants.{FAR}
 use Rattle.graph_core.specs.declared.fragment.Reading.{Reading}
@@ -7,7 +7,7 @@ use Rattle.graph_core.specs.Parts.{FragmentLists, place_count}
 use Rattle.pie_core.specs.PlaceLists.{waits}
 use Rattle.pie_core.specs.Locals.{LocalValues}
 use Rattle.pie_core.specs.LocalCalls.{with_value, with_waiting}
-use Rattle.pie_core.specs.Solutions.{met}
+use Rattle.pie_core.specs.Solutions.{mirrors_lowered}
 
 abbrev pub LieBelow : List ℕ → List ℕ → Type 0
 LieBelow ys xs = (q : ℕ) → slice_index ys q ≤ slice_index xs q
@@ -19,18 +19,12 @@ AreAtMostFar xs = (q : ℕ) → slice_index xs q ≤ FAR
 abbrev pub HoldsReaders : (ℕ → ℕ) → FragmentLists → List ℕ → ℕ → Type 0
 HoldsReaders cost part xs q = (r : Reading) → Contains (slice_index_or part.readers q []) r → slice_index xs r.place ≤ slice_index xs q + cost r.weight
 
-abbrev pub IsRelaxed : (ℕ → ℕ) → FragmentLists → List ℕ → Type 0
-IsRelaxed cost part xs = (q : ℕ) → q < place_count part → HoldsReaders cost part xs q
+abbrev pub HoldsAllReaders : (ℕ → ℕ) → FragmentLists → List ℕ → Type 0
+HoldsAllReaders cost part xs = (q : ℕ) → q < place_count part → HoldsReaders cost part xs q
 
 -- each place waits to be looked at, or holds its readers
 abbrev pub IsSettled : (ℕ → ℕ) → FragmentLists → LocalValues → Type 0
 IsSettled cost part local = (q : ℕ) → q < place_count part → (waits local.waiting q ≡ true) ⊎ HoldsReaders cost part local.values q
-
--- the values have the fragment's places, and these are few
-pub record FitsPart (part : FragmentLists) (local : LocalValues) : Type 0 where
-  pub few : place_count part < 2 ^ 32
-  pub places : length local.values ≡ place_count part
-  pub owned : length local.before ≡ length part.owned
 
 -- a place has this value and waits, where the value is less than its own
 abbrev pub lowered_to : LocalValues → ℕ → ℕ → LocalValues
@@ -43,7 +37,7 @@ pub record HasFallen (cost : ℕ → ℕ) (part : FragmentLists) (old new : Loca
   pub counters : new.counters ≡ old.counters
   pub below : LieBelow new.values old.values
   pub mirrors : (q : ℕ) → length part.owned ≤ q → slice_index new.values q ≡ slice_index old.values q
-  pub above : (ys : List ℕ) → IsRelaxed cost part ys → LieBelow ys old.values → LieBelow ys new.values
+  pub above : (ys : List ℕ) → HoldsAllReaders cost part ys → LieBelow ys old.values → LieBelow ys new.values
 
 -- what is left to do at most: a value that falls makes one place wait
 abbrev pub work_left : LocalValues → ℕ
@@ -57,4 +51,4 @@ pub record WaitWhereFell (old new : LocalValues) : Type 0 where
 
 -- each mirror is lowered by the hand
 abbrev pub with_mirrors : FragmentLists → LocalValues → List ℕ → LocalValues
-with_mirrors part local hand = record local { values = take (length part.owned) local.values ++ met Least (drop (length part.owned) local.values) hand }
+with_mirrors part local hand = record local { values = mirrors_lowered Least part.owned local.values hand }

@@ -5,13 +5,13 @@ ghost use Rattle.pie_core.specs.Solutions.{IsLocalSolution, lowered, IsReadyFor,
 ghost use Rattle.pie_lowering.specs.LeastEquations.{IsLeastJob};
 
 use crate::cost::Cost;
-use crate::lowering::{list_owned, lower_mirror_readers, lower_mirrors, work_off};
+use crate::lowering::{lower_mirror_readers, lower_mirrors, work_off};
 use graph_core::Fragment;
 use message_buffer::Hand;
 use pie_core::Local;
 
 /// Evaluates a fragment of a job with least equations: leaves the local solution of the values at entry, which lie below
-/// the starts. Each owned place is looked at once, and again after its value fell. Takes no memory.
+/// the starts. Each owned place is looked at once, and again after its value fell.
 pub fn evaluate<C: Cost>(part: &Fragment, local: &mut Local)
     requires { (job : Job) × IsLeastJob C.cost_of job × IsReadyFor (equations_of job) job part.now local.old 0 }
     ensures solution { (job : Job) → IsLeastJob C.cost_of job → IsReadyFor (equations_of job) job part.now local.old 0 →
@@ -20,14 +20,14 @@ pub fn evaluate<C: Cost>(part: &Fragment, local: &mut Local)
     ensures before { local.new.before ≡ local.old.before }
     ensures counters { local.new.counters ≡ local.old.counters }
 {
-    list_owned(local, part.owned().len() as u32);
+    local.enqueue_below(part.owned().len() as u32);
     lower_mirror_readers::<C>(part, local);
     work_off::<C>(part, local);
 }
 
 /// Evaluates a fragment of such a job again: lowers each mirror by the hand, and leaves the local solution of that. The
 /// values at entry lie below the starts and, on the owned places, below their own equations. Only places that the fallen
-/// values reach are looked at. Takes no memory.
+/// values reach are looked at.
 pub fn evaluate_again<C: Cost>(part: &Fragment, local: &mut Local, hand: &Hand)
     requires { (job : Job) × IsLeastJob C.cost_of job × IsReadyAgain (equations_of job) job part.now local.old 0 hand.now }
     ensures solution { (job : Job) → IsLeastJob C.cost_of job → IsReadyAgain (equations_of job) job part.now local.old 0 hand.now →

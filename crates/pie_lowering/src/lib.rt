@@ -1,8 +1,8 @@
 //! Lowering on one fragment, for programs whose equations are least: each value is the least of its vertex's start and
 //! of what the vertex reads, each with the cost of the weight between them ([`Cost`]).
 //!
-//! It promises that both evaluations leave the local solution of such equations, and take no memory. The programs of
-//! distances, labels and reachability stand on it.
+//! It promises that both evaluations leave the local solution of such equations. The programs of distances, labels and
+//! reachability stand on it.
 //!
 //! A value that falls is offered to the readers of its place, and no other place is looked at. (The label-correcting
 //! method of Ford and Moore, from a queue.)

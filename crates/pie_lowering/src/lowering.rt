@@ -1,25 +1,15 @@
 ghost use Rattle.std.specs.Prelude.{◌≡◌, ℕ, ◌<◌, ◌≤◌, true, length, min, slice_index};
 ghost use Rattle.value_order.specs.declared.order.Order.TheVariants.{Least};
 ghost use Rattle.graph_core.specs.Parts.{place_count};
+ghost use Rattle.pie_core.specs.Locals.{FitsPart};
 ghost use Rattle.pie_core.specs.PlaceLists.{waits};
 ghost use Rattle.pie_core.specs.LocalCalls.{with_value};
-ghost use Rattle.pie_lowering.specs.Lowering.{AreAtMostFar, FitsPart, HasFallen, HoldsReaders, IsRelaxed, IsSettled, WaitWhereFell, lowered_to, with_mirrors};
+ghost use Rattle.pie_lowering.specs.Lowering.{AreAtMostFar, HasFallen, HoldsReaders, HoldsAllReaders, IsSettled, WaitWhereFell, lowered_to, with_mirrors};
 
 use crate::cost::Cost;
 use graph_core::Fragment;
 use message_buffer::Hand;
 use pie_core::Local;
-
-/// Puts each owned place on the worklist.
-pub fn list_owned(local: &mut Local, owned: u32)
-    requires { owned ≤ length local.old.before }
-    ensures rest { local.new ≡ record local.old { waiting = local.new.waiting } }
-    ensures waits { (place : ℕ) → place < owned → waits local.new.waiting place ≡ true }
-{
-    'list: for place in 0..owned {
-        local.enqueue(place);
-    }
-}
 
 /// Lowers the value of an owned place and puts it on the worklist, where the new value is less than its own.
 fn lower(local: &mut Local, reader: u32, value: u64)
@@ -67,7 +57,7 @@ pub fn work_off<C: Cost>(part: &Fragment, local: &mut Local)
     requires fits { FitsPart part.now local.old }
     requires at_most_far { AreAtMostFar local.old.values }
     ensures fallen { HasFallen C.cost_of part.now local.old local.new }
-    ensures relaxed { IsSettled C.cost_of part.now local.old → IsRelaxed C.cost_of part.now local.new.values }
+    ensures relaxed { IsSettled C.cost_of part.now local.old → HoldsAllReaders C.cost_of part.now local.new.values }
 {
     'work: while let Some(place) = local.dequeue() {
         lower_readers::<C>(part, local, place);

@@ -22,13 +22,13 @@ use Rattle.graph_core.specs.Fragments.{owned_of, mirrors_of, places_of, fragment
 use Rattle.graph_core.proofs.Lists.{any_from, any_gives, all_from, all_gives}
 use Rattle.graph_core.proofs.Masks.{mask_has, mask_gives}
 use Rattle.graph_core.proofs.Cutting.{stands_left}
-use Rattle.pie_core.specs.Locals.{LocalValues}
-use Rattle.pie_core.specs.Solutions.{value_at, AllBelow, OwnEquationsHold, IsLocalSolution, IsReadyFor, starts_of, met, lowered}
+use Rattle.pie_core.specs.Locals.{LocalValues, FitsPart}
+use Rattle.pie_core.specs.Solutions.{value_at, AllBelow, OwnEquationsHold, IsLocalSolution, IsReadyFor, starts_of, met, lowered, mirrors_lowered}
 use Rattle.pie_core.proofs.Lists.{drop-same}
 use Rattle.pie_core.proofs.Starting.{few-places}
 use Rattle.pie_core.proofs.Bridge.{Reads, in_readers_row, in_readings_row, from_readings_row, value-at_place, read_stands}
 use Rattle.pie_sim.specs.SimJobs.{HasBit, targets_from, AreTargets, IsSimJob}
-use Rattle.pie_sim.specs.Falling.{is_read, AreSupported, IsSettled, ReadersAreListed, FitsPart, LieBelow, HasFallen, lowered_mirrors}
+use Rattle.pie_sim.specs.Falling.{is_read, AreSupported, IsSettled, ReadersAreListed, LieBelow, HasFallen}
 use Rattle.pie_sim.proofs.Bits.{at_bit, from_bit, below-bit, bit-below}
 use Rattle.pie_sim.proofs.Targets.{leads}
 use Rattle.pie_sim.proofs.Mirrors.{lowered-length}
@@ -222,11 +222,11 @@ module _ (targets : List ℕ) (job : Job) (is_for : IsSimJob targets job) (part 
       λ p l. inr (subst P (sym is_for.asks) at is_for.is_job ready.is_part hold p l)
 
   -- and what it leaves
-  pub inceval-solution : (mid new : LocalValues) (hand : List ℕ) → mid.values ≡ lowered_mirrors part local.values hand → HasFallen targets part mid new → AreSupported targets part new.values
+  pub inceval-solution : (mid new : LocalValues) (hand : List ℕ) → mid.values ≡ mirrors_lowered Mask part.owned local.values hand → HasFallen targets part mid new → AreSupported targets part new.values
       → IsLocalSolution (equations_of job) part.owned part.mirrors (lowered (equations_of job) part.owned local.values hand) new.values
   inceval-solution mid new hand values fell supported =
       let n = length part.owned in
-      let met_values = lowered_mirrors part local.values hand in
+      let met_values = mirrors_lowered Mask part.owned local.values hand in
       let low : LieBelow mid.values local.values = subst (λ xs. LieBelow xs local.values) (sym values) (lowered-below n local.values hand) in
       let len = ap length values ∙ lowered-length n local.values hand in
       let solution = part-solution mid new (low-start mid.values len low) fell supported in

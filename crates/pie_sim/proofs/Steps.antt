@@ -12,11 +12,11 @@ use Rattle.graph_core.specs.Parts.{FragmentLists}
 use Rattle.graph_core.specs.Queries.{has_bit}
 use Rattle.graph_core.proofs.Lists.{any_from, any_gives}
 use Rattle.pie_core.specs.PlaceLists.{waits}
-use Rattle.pie_core.specs.Locals.{LocalValues}
+use Rattle.pie_core.specs.Locals.{LocalValues, FitsPart}
 use Rattle.pie_core.specs.LocalCalls.{with_value, TakesOldest}
 use Rattle.pie_core.proofs.Places.{still_waits}
 use Rattle.pie_sim.specs.SimJobs.{HasBit}
-use Rattle.pie_sim.specs.Falling.{is_read, IsSupported, AreSupported, IsSettled, IsSettledBut, ReadersAreListed, ReadersWait, FitsPart, work_left, HasLowered, HasFallen}
+use Rattle.pie_sim.specs.Falling.{is_read, IsSupported, AreSupported, IsSettled, IsSettledBut, ReadersAreListed, ReadersWait, work_left, HasLowered, HasFallen}
 use Rattle.pie_sim.proofs.Bits.{below-bit, bit-below}
 
 -- ---- one place gets a lower value

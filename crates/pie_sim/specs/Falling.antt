@@ -1,14 +1,13 @@
 -- Values of a fragment on their way down to the local solution of a simulation.
-use Rattle.std.specs.Prelude.{◌≡◌, ◌≢◌, ℕ, ◌+◌, ◌*◌, ◌^◌, ◌<◌, ◌≤◌, ◌⊎◌, Bool, true, List, [], ◌++◌, length, take, drop, slice_index, slice_index_or, slice_set, Contains, IsTrue, sum_by, count_ones}
+use Rattle.std.specs.Prelude.{◌≡◌, ◌≢◌, ℕ, ◌+◌, ◌*◌, ◌<◌, ◌≤◌, ◌⊎◌, Bool, true, List, [], length, slice_index, slice_index_or, slice_set, Contains, IsTrue, sum_by, count_ones}
 use Rattle.std.specs.List.{list_any}
 use Rattle.value_order.specs.declared.order.Order.TheVariants.{Mask}
 use Rattle.value_order.specs.Order.{Below}
 use Rattle.graph_core.specs.declared.fragment.Reading.{Reading}
-use Rattle.graph_core.specs.Parts.{FragmentLists, place_count}
+use Rattle.graph_core.specs.Parts.{FragmentLists}
 use Rattle.graph_core.specs.Queries.{has_bit}
 use Rattle.pie_core.specs.PlaceLists.{waits}
 use Rattle.pie_core.specs.Locals.{LocalValues}
-use Rattle.pie_core.specs.Solutions.{met}
 use Rattle.pie_sim.specs.SimJobs.{HasBit}
 
 -- whether some value that is read in a row has bit m
@@ -39,12 +38,6 @@ ReadersAreListed part =
 abbrev pub ReadersWait : FragmentLists → LocalValues → ℕ → Type 0
 ReadersWait part local place = (r : Reading) → Contains (slice_index_or part.readers place []) r → waits local.waiting r.place ≡ true
 
--- the values have the fragment's places, and these are few
-pub record FitsPart (part : FragmentLists) (local : LocalValues) : Type 0 where
-  pub few : place_count part < 2 ^ 32
-  pub places : length local.values ≡ place_count part
-  pub owned : length local.before ≡ length part.owned
-
 -- what is left to do at most: a value that loses a bit makes at most all owned places wait
 abbrev pub work_left : LocalValues → ℕ
 work_left local = sum_by count_ones local.values * (length local.before + 1) + length local.waiting
@@ -69,7 +62,3 @@ pub record HasFallen (targets : List ℕ) (part : FragmentLists) (old new : Loca
   pub below : LieBelow new.values old.values
   pub mirrors : (q : ℕ) → length part.owned ≤ q → slice_index new.values q ≡ slice_index old.values q
   pub above : (ys : List ℕ) → AreSupported targets part ys → LieBelow ys old.values → LieBelow ys new.values
-
--- each mirror is lowered by the hand
-abbrev pub lowered_mirrors : FragmentLists → List ℕ → List ℕ → List ℕ
-lowered_mirrors part xs hand = take (length part.owned) xs ++ met Mask (drop (length part.owned) xs) hand

@@ -1,6 +1,6 @@
 //! Graph simulation on one fragment: the sequential algorithm that a worker runs on its own part of the graph.
 //!
-//! It promises that both calls leave the local solution of the equations of a simulation, and take no memory. The
+//! It promises that both calls leave the local solution of the equations of a simulation. The
 //! greatest solution of these equations is exactly what some simulation relates: `sim_equations`. It stands on the
 //! trait of programs.
 //!

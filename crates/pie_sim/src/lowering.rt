@@ -3,23 +3,14 @@ ghost use Rattle.value_order.specs.declared.order.Order.TheVariants.{Mask};
 ghost use Rattle.value_order.specs.Order.{Below};
 ghost use Rattle.graph_core.specs.Parts.{place_count};
 ghost use Rattle.graph_core.specs.Queries.{has_bit};
+ghost use Rattle.pie_core.specs.Solutions.{mirrors_lowered};
+ghost use Rattle.pie_core.specs.Locals.{FitsPart};
 ghost use Rattle.pie_core.specs.PlaceLists.{waits};
-ghost use Rattle.pie_sim.specs.Falling.{FitsPart, HasLowered, IsSettled, ReadersAreListed, ReadersWait, is_read, lowered_mirrors};
+ghost use Rattle.pie_sim.specs.Falling.{HasLowered, IsSettled, ReadersAreListed, ReadersWait, is_read};
 
 use graph_core::Fragment;
 use message_buffer::Hand;
 use pie_core::Local;
-
-/// Puts each owned place on the worklist.
-pub fn list_owned(local: &mut Local, owned: u32)
-    requires { owned ≤ length local.old.before }
-    ensures rest { local.new ≡ record local.old { waiting = local.new.waiting } }
-    ensures waits { (place : ℕ) → place < owned → waits local.new.waiting place ≡ true }
-{
-    'list: for place in 0..owned {
-        local.enqueue(place);
-    }
-}
 
 /// Puts each reader of a place on the worklist.
 fn list_readers(part: &Fragment, local: &mut Local, place: u32)
@@ -67,7 +58,7 @@ pub fn lower_mirrors(part: &Fragment, local: &mut Local, hand: &Hand)
     requires fits { FitsPart part.now local.old }
     requires listed { ReadersAreListed part.now }
     requires hand { length hand.now.values ≡ length part.now.mirrors }
-    ensures values { local.new.values ≡ lowered_mirrors part.now local.old.values hand.now.values }
+    ensures values { local.new.values ≡ mirrors_lowered Mask part.now.owned local.old.values hand.now.values }
     ensures before { local.new.before ≡ local.old.before }
     ensures counters { local.new.counters ≡ local.old.counters }
     ensures settled { (targets : List ℕ) → IsSettled targets part.now local.old → IsSettled targets part.now local.new }

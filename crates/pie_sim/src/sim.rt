@@ -2,10 +2,11 @@ ghost use Rattle.std.specs.Prelude.{◌≡◌, ℕ, ◌<◌, ◌≤◌, ◌↔�
 ghost use Rattle.value_order.specs.declared.order.Order.TheVariants.{Mask};
 ghost use Rattle.value_order.specs.Order.{Below};
 ghost use Rattle.graph_core.specs.Graphs.{IsPattern};
+ghost use Rattle.pie_core.specs.Locals.{FitsPart};
 ghost use Rattle.pie_sim.specs.SimJobs.{AreTargets, HasBit};
-ghost use Rattle.pie_sim.specs.Falling.{AreSupported, FitsPart, HasFallen, IsSettled, IsSettledBut, ReadersAreListed, work_left};
+ghost use Rattle.pie_sim.specs.Falling.{AreSupported, HasFallen, IsSettled, IsSettledBut, ReadersAreListed, work_left};
 
-use crate::lowering::{list_owned, lower, lower_mirrors, read_bits};
+use crate::lowering::{lower, lower_mirrors, read_bits};
 use grape_port::NoMemory;
 use graph_core::{Fragment, Pattern};
 use message_buffer::Hand;
@@ -115,7 +116,7 @@ impl Pie for Sim {
     }
 
     fn peval(&self, part: &Fragment, local: &mut Local) {
-        list_owned(local, part.owned().len() as u32);
+        local.enqueue_below(part.owned().len() as u32);
         self.work_off(part, local);
     }
 

@@ -2,7 +2,7 @@ use Rattle.std.proofs.Common.{◌≡◌, [], Some, refl, sym, subst}
 use Rattle.std.specs.Prelude.{IsNone}
 use Rattle.pie_core.specs.Locals.{LocalValues}
 use Rattle.pie_core.specs.LocalCalls.{TakesOldest}
-use Rattle.pie_lowering.specs.Lowering.{IsRelaxed}
+use Rattle.pie_lowering.specs.Lowering.{HoldsAllReaders}
 use Rattle.pie_lowering.proofs.Steps.{fallen-same, fallen-trans, popped-settled, none-relaxed}
 use Rattle.pie_lowering.proofs.lowering.work_off.Goals as goal
 
@@ -27,4 +27,4 @@ returns-clause-relaxed g c = λ h.
     let mid = c.dequeue.new.self in
     let same : mid ≡ old = subst (λ r. TakesOldest old r mid) c.in_default.is c.dequeue.ensures.oldest in
     let none : old.waiting ≡ [] = c.dequeue.ensures.none.0 (subst (λ r. IsNone r) (sym c.in_default.is) refl) in
-    subst (λ (l : LocalValues). IsRelaxed g.C.Cost.cost_of part l.values) (sym same) (none-relaxed g.C.Cost.cost_of part old none (c.work.invariant.settled h))
+    subst (λ (l : LocalValues). HoldsAllReaders g.C.Cost.cost_of part l.values) (sym same) (none-relaxed g.C.Cost.cost_of part old none (c.work.invariant.settled h))

@@ -2,7 +2,7 @@ use Rattle.std.specs.Prelude.{slice_set}
 use Rattle.std.proofs.Common.{◌≡◌, ◌+◌, ◌<◌, refl, sym, ◌∙◌, ap, subst, arith, length, take, slice_index, bit_and}
 use Rattle.value_order.specs.declared.order.Order.TheVariants.{Mask}
 use Rattle.value_order.proofs.Orders.{meet-below_left}
-use Rattle.pie_sim.specs.Falling.{lowered_mirrors}
+use Rattle.pie_core.specs.Solutions.{mirrors_lowered}
 use Rattle.pie_sim.proofs.Steps.{tested-settled}
 use Rattle.pie_sim.proofs.Mirrors.{no-mirrors, mirrors-more, lowered-length, lowered-fits}
 use Rattle.pie_sim.proofs.lowering.lower_mirrors.Goals as goal
@@ -47,11 +47,11 @@ hand-preserved c =
     let place : m < length start.values = omega (arith, owned, in_hand, c.requires.hand, c.requires.fits.places) in
     let inside : m < length old.values = omega (arith, place, len, ap length so_far.values) in
     let value = bit_and (slice_index c.values.result.now m) (slice_index c.values-value-items.result.now k) in
-    let value_is : value ≡ bit_and (slice_index (lowered_mirrors part start.values (take k hand)) m) (slice_index hand k) =
+    let value_is : value ≡ bit_and (slice_index (mirrors_lowered Mask part.owned start.values (take k hand)) m) (slice_index hand k) =
     ap (λ xs. bit_and (slice_index xs m) (slice_index c.values-value-items.result.now k)) (c.values.ensures.values ∙ so_far.values)
-    ∙ ap (λ xs. bit_and (slice_index (lowered_mirrors part start.values (take k hand)) m) (slice_index xs k)) c.values-value-items.ensures in
+    ∙ ap (λ xs. bit_and (slice_index (mirrors_lowered Mask part.owned start.values (take k hand)) m) (slice_index xs k)) c.values-value-items.ensures in
     record {
-      values = step.values ∙ ap (λ xs. slice_set xs m value) so_far.values ∙ ap (slice_set (lowered_mirrors part start.values (take k hand)) m) value_is ∙ sym (mirrors-more part start.values hand k m in_hand (omega (arith, owned)) place);
+      values = step.values ∙ ap (λ xs. slice_set xs m value) so_far.values ∙ ap (slice_set (mirrors_lowered Mask part.owned start.values (take k hand)) m) value_is ∙ sym (mirrors-more part start.values hand k m in_hand (omega (arith, owned)) place);
       before = step.before ∙ so_far.before;
       counters = step.counters ∙ so_far.counters;
       settled = λ targets h. tested-settled targets part old new m value step inside c.requires.listed (λ l. absurd (omega (arith, l, owned))) (λ q l d. so_far.settled targets h q l);

@@ -1,7 +1,7 @@
 use Rattle.std.proofs.Common.{sym, ap, subst, length, ◌∙◌}
-use Rattle.pie_core.specs.Locals.{LocalValues}
+use Rattle.pie_core.specs.Locals.{LocalValues, FitsPart}
 use Rattle.pie_lowering.specs.LeastEquations.{whole_weight}
-use Rattle.pie_lowering.specs.Lowering.{AreAtMostFar, FitsPart, HasFallen, with_mirrors}
+use Rattle.pie_lowering.specs.Lowering.{AreAtMostFar, HasFallen, with_mirrors}
 use Rattle.pie_lowering.proofs.Mirrors.{mirrors-fit, lowered-length}
 use Rattle.pie_lowering.proofs.Solved.{ready-fits, ready-far, lowered-far, again-solves}
 use Rattle.pie_dist.proofs.LeastDist.{dist-least}

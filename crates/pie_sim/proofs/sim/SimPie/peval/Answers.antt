@@ -13,7 +13,7 @@ overflow_cast-owned c =
 pub work_off-requires-clause-fits : goal.work_off-requires-clause-fits
 work_off-requires-clause-fits c =
     let r = c.requires in
-    fallen-fits c.args.self.now c.args.part.now c.args.local.now c.list_owned.new.local (fallen-same c.args.self.now c.args.part.now c.args.local.now c.list_owned.new.local c.list_owned.ensures.rest) (ready-fits c.args.self.now r.0 r.1 c.args.part.now c.args.local.now 0 r.2)
+    fallen-fits c.args.self.now c.args.part.now c.args.local.now c.enqueue_below.new.self (fallen-same c.args.self.now c.args.part.now c.args.local.now c.enqueue_below.new.self c.enqueue_below.ensures.rest) (ready-fits c.args.self.now r.0 r.1 c.args.part.now c.args.local.now 0 r.2)
 
 pub work_off-requires-clause-listed : goal.work_off-requires-clause-listed
 work_off-requires-clause-listed c = let r = c.requires in ready-listed c.args.self.now r.0 r.1 c.args.part.now c.args.local.now 0 r.2
@@ -24,6 +24,6 @@ returns-clause-solution c = λ job is_for ready.
     let part = c.args.part.now in
     let old = c.args.local.now in
     let new = c.work_off.new.local in
-    let fell : HasFallen sim part old new = fallen-trans sim part old c.list_owned.new.local new (fallen-same c.args.self.now c.args.part.now c.args.local.now c.list_owned.new.local c.list_owned.ensures.rest) c.work_off.ensures.fallen in
+    let fell : HasFallen sim part old new = fallen-trans sim part old c.enqueue_below.new.self new (fallen-same c.args.self.now c.args.part.now c.args.local.now c.enqueue_below.new.self c.enqueue_below.ensures.rest) c.work_off.ensures.fallen in
     let owned = ap length c.owned.ensures.owned in
-    peval-solution sim job is_for part old 0 ready new fell (c.work_off.ensures.supported (λ p l. inl (c.list_owned.ensures.waits p (omega (arith, l, owned)))))
+    peval-solution sim job is_for part old 0 ready new fell (c.work_off.ensures.supported (λ p l. inl (c.enqueue_below.ensures.waits p (omega (arith, l, owned)))))
