@@ -1,19 +1,23 @@
 -- What a lane's steps at the hub do to its note.
-use Rattle.std.proofs.Common.{◌≡◌, ℕ, ◌+◌, ◌-◌, ◌^◌, ◌<◌, ◌≤◌, min, Bool, true, false, ◌==◌, MatchBool, refl, sym, ◌∙◌, ap, subst, arith, List, length, slice_index_or, slice_set}
+use Rattle.std.proofs.Common.{◌≡◌, ℕ, ◌+◌, ◌-◌, ◌^◌, ◌<◌, ◌≤◌, min, Bool, true, false, ◌==◌, MatchBool, refl, sym, ◌∙◌, ap, subst, arith, List, [], ◌∷◌, ◌++◌, length, reverse, slice_index_or, slice_set}
+use Rattle.std.proofs.lemmas.Bool.{false≢true}
 use Rattle.std.proofs.lemmas.List.{get_or-set_same}
 use Rattle.graph_core.specs.declared.job.Job.{Job}
 use Rattle.grape_event.specs.declared.event.Event.{Event}
+use Rattle.grape_event.specs.declared.event.Event.TheVariants.{Stop}
+use Rattle.grape_event.specs.declared.event.StopCause.TheVariants.{Memory}
 use Rattle.token_cut.specs.Parts.{SnapshotParts}
+use Rattle.legal_journal.specs.Past.{has_ended}
 use Rattle.grape_hub.specs.declared.work.Work.{Work}
 use Rattle.grape_hub.specs.declared.work.Next.{Next}
 use Rattle.grape_hub.specs.declared.work.Next.TheVariants.{Took, Did, Idle, Ended, NoMemory}
 use Rattle.grape_hub.specs.declared.lane_record.LaneRecord.{LaneRecord}
 use Rattle.grape_hub.specs.HubValues.{HubValues}
-use Rattle.grape_hub.specs.Calls.{Appended, Chooses, IsWork, MayGive, ReadyWhereTook}
+use Rattle.grape_hub.specs.Calls.{Appended, AppendedUnlessEnded, Unchanged, Chooses, IsWork, MayGive, ReadyWhereTook}
 use Rattle.grape_hub.specs.LanedHub.{LanedHub, lane_at, is_out_at, no_record, answer_of, after_answer, after_give, lanes_after_answer, lanes_after_give, IsLanedHub}
 use Rattle.grape_hub.specs.Notes.{ground_of, ground_in, calls_in, answer_in, note_of, HasNoWork}
 use Rattle.grape_hub.specs.Theorems.{GroundsTell, NotesBegin, EmptyIsFree, RecordsTell, WorksTell}
-use Rattle.lane_loop.specs.Turns.{IsOutIn, HasLane, HasEvaluated, IsOutWhereTook}
+use Rattle.lane_loop.specs.Turns.{IsOutIn, HasLane, HasEvaluated, IsOutWhereTook, lacks_memory, StopsForMemory, ChoosesOrStops}
 
 -- ---- the ground
 
@@ -97,6 +101,38 @@ answered begin free records x y counters lane r stood stands l counted chosen re
 -- the same where what follows leaves the note
 pub answered_still : (before between after : List ℕ) (counters : Job → ℕ) (lane : ℕ) (r : Next) → after ≡ between → HasAnswered before between counters lane r → HasAnswered before after counters lane r
 answered_still before between after counters lane r same has = subst (λ (n : List ℕ). HasAnswered before n counters lane r) (sym same) has
+
+-- ---- a Stop
+
+stops_if : (had : Bool) (old between new : HubValues) → Unchanged old between → MatchBool had (new ≡ between) (Appended between (Stop Memory) new) → MatchBool had (Unchanged old new) (Appended old (Stop Memory) new)
+stops_if true old between new same e = (
+  ap (λ (h : HubValues). h.job) e ∙ same.0,
+  ap (λ (h : HubValues). h.counters) e ∙ same.1,
+  ap (λ (h : HubValues). h.journal.events) e ∙ same.2,
+  ap (λ (h : HubValues). h.start) e ∙ same.3,
+)
+stops_if false old between new same more = (more.0 ∙ same.0, more.1 ∙ same.1, more.2 ∙ ap (λ (es : List Event). es ++ Stop Memory ∷ []) same.2, more.3 ∙ same.3)
+
+-- a Stop after a call for which there was no memory, which has changed nothing
+pub stops_after : (old between new : HubValues) → Unchanged old between → AppendedUnlessEnded between (Stop Memory) new → StopsForMemory old new
+stops_after old between new same after =
+    let had = ap (λ (es : List Event). has_ended (reverse es)) same.2 in
+    subst (λ (b : Bool). MatchBool b (Unchanged old new) (Appended old (Stop Memory) new)) had (stops_if (has_ended (reverse between.journal.events)) old between new same after)
+
+-- what next chose where there was memory for it, and where there was none
+pub chose : (old new : HubValues) (lane : ℕ) (answer : Next) → lacks_memory answer ≡ false → Chooses old lane answer new → ChoosesOrStops old lane answer new
+chose old new lane (Took work) had chosen = chosen
+chose old new lane (Did e) had chosen = chosen
+chose old new lane Idle had chosen = chosen
+chose old new lane Ended had chosen = chosen
+chose old new lane NoMemory had chosen = absurd (false≢true (sym had))
+
+pub stopped : (old between new : HubValues) (lane : ℕ) (answer : Next) → lacks_memory answer ≡ true → Chooses old lane answer between → AppendedUnlessEnded between (Stop Memory) new → ChoosesOrStops old lane answer new
+stopped old between new lane (Took work) had chosen after = absurd (false≢true had)
+stopped old between new lane (Did e) had chosen after = absurd (false≢true had)
+stopped old between new lane Idle had chosen after = absurd (false≢true had)
+stopped old between new lane Ended had chosen after = absurd (false≢true had)
+stopped old between new lane NoMemory had chosen after = stops_after old between new chosen after
 
 -- ---- a give
 

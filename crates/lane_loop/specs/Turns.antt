@@ -1,13 +1,17 @@
 -- What a lane's seat says before and after a turn, and between its steps.
-use Rattle.std.specs.Prelude.{◌≡◌, ℕ, ◌<◌, ◌⊎◌, true, List}
+use Rattle.std.specs.Prelude.{◌≡◌, ℕ, ◌<◌, ◌⊎◌, Bool, true, false, MatchBool, List, reverse}
 use Rattle.graph_core.specs.declared.job.Job.{Job}
 use Rattle.graph_core.specs.Parts.{FragmentLists}
 use Rattle.graph_core.specs.Fragments.{fragments_of}
+use Rattle.grape_event.specs.declared.event.Event.TheVariants.{Stop}
+use Rattle.grape_event.specs.declared.event.StopCause.TheVariants.{Memory}
 use Rattle.token_cut.specs.Parts.{SnapshotParts}
+use Rattle.legal_journal.specs.Past.{has_ended}
 use Rattle.grape_hub.specs.declared.work.Work.{Work}
 use Rattle.grape_hub.specs.declared.work.Next.{Next}
 use Rattle.grape_hub.specs.declared.work.Next.TheVariants as next
-use Rattle.grape_hub.specs.Calls.{IsWork, IsReady, MayGive}
+use Rattle.grape_hub.specs.HubValues.{HubValues}
+use Rattle.grape_hub.specs.Calls.{Appended, Unchanged, Chooses, IsWork, IsReady, MayGive}
 use Rattle.grape_hub.specs.LanedHub.{LanedHub, is_out_at, IsLanedHub}
 use Rattle.grape_hub.specs.Notes.{ground_of, ground_in, note_of, HasNoWork}
 use Rattle.lane_loop.specs.declared.served.Served.{Served}
@@ -54,3 +58,22 @@ IsOutWhereTook counters lane note (next.Did e) = HasNoWork note
 IsOutWhereTook counters lane note next.Idle = HasNoWork note
 IsOutWhereTook counters lane note next.Ended = HasNoWork note
 IsOutWhereTook counters lane note next.NoMemory = HasNoWork note
+
+-- ---- at the hub
+
+-- there was no memory for the event
+abbrev pub lacks_memory : Next → Bool
+lacks_memory next.NoMemory = true
+lacks_memory _ = false
+
+-- A Stop for want of memory was appended, but for a journal that had ended, where nothing has changed but how much room is spare.
+abbrev pub StopsForMemory : HubValues → HubValues → Type 0
+StopsForMemory old new = MatchBool (has_ended (reverse old.journal.events)) (Unchanged old new) (Appended old (Stop Memory) new)
+
+-- What a lane's next event leaves: exactly what next chose, and where there was no memory for it exactly a Stop.
+abbrev pub ChoosesOrStops : HubValues → ℕ → Next → HubValues → Type 0
+ChoosesOrStops old lane (next.Took work) new = Chooses old lane (next.Took work) new
+ChoosesOrStops old lane (next.Did e) new = Chooses old lane (next.Did e) new
+ChoosesOrStops old lane next.Idle new = Chooses old lane next.Idle new
+ChoosesOrStops old lane next.Ended new = Chooses old lane next.Ended new
+ChoosesOrStops old lane next.NoMemory new = StopsForMemory old new

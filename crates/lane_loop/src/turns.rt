@@ -1,8 +1,10 @@
 ghost use Rattle.std.specs.Prelude.{◌≡◌, ◌+◌, ◌-◌, ◌^◌, min};
 ghost use Rattle.noted_lock.specs.Sights.{lock_id, seat_lock, seat_number, seat_count, seat_note};
+ghost use Rattle.grape_event.specs.declared.event.Event.TheVariants.{Give};
 ghost use Rattle.grape_hub.specs.LanedHub.{answer_of};
+ghost use Rattle.grape_hub.specs.Calls.{AppendedUnlessEnded};
 ghost use Rattle.grape_hub.specs.Notes.{ground_in, calls_in, answer_in, note_of, HasNoWork, OthersStay};
-ghost use Rattle.lane_loop.specs.Turns.{HasLane, IsOfJob, Answers, HasOut, HasEvaluated, IsOutWhereTook};
+ghost use Rattle.lane_loop.specs.Turns.{HasLane, IsOfJob, Answers, HasOut, HasEvaluated, IsOutWhereTook, ChoosesOrStops, lacks_memory};
 
 use crate::gate::Gate;
 use crate::served::Served;
@@ -55,10 +57,11 @@ pub fn turn<R: Wait, P: Pie, Q: Pacer, G: Gate>(
     }
 }
 
-/// The lane's next event, and a Stop where there is no memory for it.
+/// The lane's next event, and exactly one Stop where there is no memory for it; none where the journal had ended.
 fn next_or_stop<P: Pie, Q: Pacer>(hub: &mut Hub<P, Q>, lane: u32) -> Next
     requires lane { HasLane lane (note_of hub.old lane) }
     requires empty { HasNoWork (note_of hub.old lane) }
+    ensures chosen { ChoosesOrStops hub.old.hub lane result hub.new.hub }
     ensures ground { ground_in (note_of hub.new lane) ≡ ground_in (note_of hub.old lane) }
     ensures calls { calls_in (note_of hub.new lane) ≡ min (calls_in (note_of hub.old lane) + 1) (2 ^ 64 - 1) }
     ensures answer { answer_in (note_of hub.new lane) ≡ answer_of result }
@@ -68,10 +71,17 @@ fn next_or_stop<P: Pie, Q: Pacer>(hub: &mut Hub<P, Q>, lane: u32) -> Next
     notes_tell();
     hub.stands();
     let answer = hub.next(lane);
-    if matches!(answer, Next::NoMemory) {
+    if lacks_memory(&answer) {
         hub.stop(StopCause::Memory);
     }
     answer
+}
+
+/// Whether there was no memory for an event.
+fn lacks_memory(answer: &Next) -> bool
+    ensures { result ≡ lacks_memory answer.now }
+{
+    matches!(answer, Next::NoMemory)
 }
 
 /// Evaluates a Work outside the lock, and gives it back.
@@ -105,9 +115,10 @@ fn serve<R: Wait, P: Pie, Q: Pacer, G: Gate>(
     inside.leave()
 }
 
-/// Gives a Work back that was evaluated.
+/// Gives a Work back that was evaluated: exactly its Give is appended, and nothing where the journal had ended.
 fn give_back<P: Pie, Q: Pacer>(hub: &mut Hub<P, Q>, lane: u32, work: Work)
     requires evaluated { HasEvaluated P.counters_for lane (note_of hub.old lane) work }
+    ensures given { AppendedUnlessEnded hub.old.hub (Give work.worker) hub.new.hub }
     ensures ground { ground_in (note_of hub.new lane) ≡ ground_in (note_of hub.old lane) }
     ensures empty { HasNoWork (note_of hub.new lane) }
     ensures calls { calls_in (note_of hub.new lane) ≡ calls_in (note_of hub.old lane) }

@@ -17,4 +17,4 @@ returns g c =
     let may = may_take_back t.grounds t.begin t.works old g.P.Pie.counters_for c.args.lane c.args.work c.stands.ensures.hub c.stands.ensures.counters c.requires.evaluated in
     let same = of_unless (has_ended (reverse old.hub.journal.events)) old.hub c.give.new.self.hub (Give c.args.work.worker) c.give.ensures.given in
     let gave = gave t.begin t.empty t.records old c.give.new.self c.args.lane c.stands.ensures.hub c.give.ensures.hub may.in_range may.out same c.give.ensures.record in
-    record { ground = gave.ground; empty = gave.empty; calls = gave.calls; answer = gave.answer; others = c.give.ensures.others }
+    record { given = c.give.ensures.given; ground = gave.ground; empty = gave.empty; calls = gave.calls; answer = gave.answer; others = c.give.ensures.others }
