@@ -1,17 +1,16 @@
-ghost use Rattle.std.specs.Prelude.{◌≡◌, ℕ, ◌+◌, ◌<◌, ◌≤◌, ◌⊎◌, false, IfSome, length, vec_len, vec_capacity};
+ghost use Rattle.std.specs.Prelude.{◌≡◌, ℕ, ◌+◌, ◌<◌, ◌≤◌, false, IfSome, length, vec_len, vec_capacity};
 ghost use Rattle.std.specs.Thread.{IsSync, IsSend};
 ghost use Rattle.graph_core.specs.Graphs.{IsJob};
 ghost use Rattle.graph_core.specs.Fragments.{fragments_of};
 ghost use Rattle.base_machine.specs.Machine.{system_of, fresh_snapshot};
-ghost use Rattle.noted_lock.specs.Sights.{lock_id};
-ghost use Rattle.lane_loop.specs.declared.served.Served.TheVariants.{Ended, NoMemory};
+ghost use Rattle.noted_lock.specs.Sights.{lock_id, seat_note};
 ghost use Rattle.grape_hub.specs.LanedHub.{IsLanedHub, is_out_at};
-ghost use Rattle.grape_hub.specs.Notes.{note_of};
+ghost use Rattle.grape_hub.specs.Notes.{note_of, answer_in};
 ghost use Rattle.grape_hub.specs.Theorems.{IsCalm};
 ghost use Rattle.coordinator.specs.Shapes.{shape_of};
 ghost use Rattle.coordinator.specs.Runs.{HasRun};
 ghost use Rattle.coordinator.specs.Seats.{IsSeatOfRun, HoldsSeat, IsSlotAt, AreSeatsOfRun, AreSlots};
-ghost use Rattle.coordinator.specs.Turns.{HasNoDiskStop};
+ghost use Rattle.coordinator.specs.Turns.{HasNoDiskStop, AnswersUnlessDid, EndsLane};
 
 use crate::alone::{ended, run_out};
 use crate::duties::duty_turn;
@@ -244,16 +243,17 @@ fn beside<R: Threads + Wait + Sync, P: Pie + Send + Sync, Q: Pacer + Send, G: Ga
     ensures count { length result.0.items ≡ length slots.items }
     ensures own { IsSeatOfRun (lock_id lock.now) job.now job.now.settings.lanes result.1 }
     ensures first { IsSeatOfRun (lock_id lock.now) job.now 0 result.2 }
+    ensures ended { EndsLane (answer_in (seat_note result.2)) }
 {
-    let (slots, (_last, own, first)) = join(
+    let (slots, (own, first)) = join(
         rt,
         move || -> Vec<Option<LockSeat>>
             requires { IsSync R.row × IsSend P.row × IsSync P.row × IsSend Q.row × IsSync G.row × AreSlots (lock_id lock.now) job.now slots.items × (length slots.items + 1 ≡ job.now.settings.lanes) × (fragments.now ≡ fragments_of job.now) × P.is_for program.now job.now }
             ensures { AreSlots (lock_id lock.entry.now) job.entry.now result.items × (length result.items ≡ length slots.items) }
         { run_others(rt, lock, slots, job, fragments, program, gate) },
-        move || -> (Served, LockSeat, LockSeat)
+        move || -> (LockSeat, LockSeat)
             requires { IsSeatOfRun (lock_id lock.now) job.now job.now.settings.lanes own × IsSeatOfRun (lock_id lock.now) job.now 0 first × (fragments.now ≡ fragments_of job.now) × (job.now.settings.snapshot ≡ 0) × P.is_for program.now job.now × (0 < job.now.settings.lanes) }
-            ensures { IsSeatOfRun (lock_id lock.entry.now) job.entry.now job.entry.now.settings.lanes result.1 × IsSeatOfRun (lock_id lock.entry.now) job.entry.now 0 result.2 }
+            ensures { IsSeatOfRun (lock_id lock.entry.now) job.entry.now job.entry.now.settings.lanes result.0 × IsSeatOfRun (lock_id lock.entry.now) job.entry.now 0 result.1 × EndsLane (answer_in (seat_note result.1)) }
         { coordinate(rt, alloc, lock, own, first, job, fragments, program, gate) },
     );
     (slots, own, first)
@@ -322,7 +322,8 @@ fn run_slot<R: Wait, P: Pie, Q: Pacer, G: Gate>(
     *slot = Some(seat);
 }
 
-/// Takes the duties, and where there is none the turns of lane 0, until a duty or a turn answers Ended or NoMemory.
+/// Takes the duties, and where there is none a turn of lane 0, until such a turn answers Ended or NoMemory. Lane 0 also
+/// has a turn where a duty found the journal ended or stopped the run, so that its record tells of it.
 fn coordinate<R: Wait, P: Pie, Q: Pacer, G: Gate>(
     rt: &R,
     alloc: Global,
@@ -333,16 +334,16 @@ fn coordinate<R: Wait, P: Pie, Q: Pacer, G: Gate>(
     fragments: &[Fragment],
     program: &P,
     gate: &G,
-) -> (Served, LockSeat, LockSeat)
+) -> (LockSeat, LockSeat)
     requires lanes { 0 < job.now.settings.lanes }
     requires own { IsSeatOfRun (lock_id lock.now) job.now job.now.settings.lanes own }
     requires first { IsSeatOfRun (lock_id lock.now) job.now 0 first }
     requires fragments { fragments.now ≡ fragments_of job.now }
     requires snapshot { job.now.settings.snapshot ≡ 0 }
     requires program { P.is_for program.now job.now }
-    ensures ended { (result.0 ≡ Ended) ⊎ (result.0 ≡ NoMemory) }
-    ensures own { IsSeatOfRun (lock_id lock.now) job.now job.now.settings.lanes result.1 }
-    ensures first { IsSeatOfRun (lock_id lock.now) job.now 0 result.2 }
+    ensures own { IsSeatOfRun (lock_id lock.now) job.now job.now.settings.lanes result.0 }
+    ensures first { IsSeatOfRun (lock_id lock.now) job.now 0 result.1 }
+    ensures ended { EndsLane (answer_in (seat_note result.1)) }
 {
     // without snapshots nothing is written into it
     let mut into = Snapshot {
@@ -360,14 +361,13 @@ fn coordinate<R: Wait, P: Pie, Q: Pacer, G: Gate>(
         match served {
             Served::Did => {}
             Served::Idle => lock.rest(rt),
-            Served::Ended => return (Served::Ended, own, first),
-            Served::NoMemory => return (Served::NoMemory, own, first),
+            Served::Ended | Served::NoMemory => return (own, first),
         }
     }
     unreachable!()
 }
 
-/// A duty, or where there is none a turn of lane 0.
+/// A duty, and where that appended no event a turn of lane 0, which then answers.
 fn coordinator_turn<R: Wait, P: Pie, Q: Pacer, G: Gate>(
     rt: &R,
     lock: &NotedLock<Hub<P, Q>>,
@@ -387,13 +387,14 @@ fn coordinator_turn<R: Wait, P: Pie, Q: Pacer, G: Gate>(
     requires program { P.is_for program.now job.now }
     ensures own { IsSeatOfRun (lock_id lock.now) job.now job.now.settings.lanes result.1 }
     ensures first { IsSeatOfRun (lock_id lock.now) job.now 0 result.2 }
+    ensures answer { AnswersUnlessDid result.0 (answer_in (seat_note result.2)) }
 {
     let (served, own) = duty_turn(rt, lock, own, job, into);
     match served {
-        Served::Idle => {
+        Served::Did => (Served::Did, own, first),
+        Served::Idle | Served::Ended | Served::NoMemory => {
             let (served, first) = turn(rt, lock, first, 0, program, fragments, gate);
             (served, own, first)
         }
-        Served::Did | Served::Ended | Served::NoMemory => (served, own, first),
     }
 }

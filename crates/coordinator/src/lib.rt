@@ -12,6 +12,8 @@ mod duties;
 mod kept_at;
 mod lanes;
 mod laws;
+#[cfg(test)]
+mod policy_tests;
 mod programs;
 mod ran;
 mod shape;

@@ -14,7 +14,7 @@ use std::process::Abort;
 use std::test::Fail;
 
 /// The job of a text.
-fn job_of(alloc: Global, text: &str) -> Result<Job, TextFault>
+pub(crate) fn job_of(alloc: Global, text: &str) -> Result<Job, TextFault>
     ensures job { IfOk result IsJob }
     ensures built { IfOk result IsBuilt }
 {
@@ -24,7 +24,7 @@ fn job_of(alloc: Global, text: &str) -> Result<Job, TextFault>
 }
 
 /// Runs a job with these pacers.
-fn ran<Q: Pacer>(alloc: Global, job: &Job, pacers: Vec<Q>) -> Result<Ran, TextFault>
+pub(crate) fn ran<Q: Pacer>(alloc: Global, job: &Job, pacers: Vec<Q>) -> Result<Ran, TextFault>
     requires job { IsJob job.now }
     requires built { IsBuilt job.now }
 {
@@ -42,7 +42,7 @@ fn check_events(rt: &impl Abort, journal: &Journal, want: &[Event]) {
 }
 
 /// Stops where a run has other events, or isn't done.
-fn check_run(rt: &impl Abort, ran: &Ran, want: &[Event]) {
+pub(crate) fn check_run(rt: &impl Abort, ran: &Ran, want: &[Event]) {
     match ran {
         Ran::Done { story, .. } => {
             assert_eq!(rt; story.start.epoch, 0);
@@ -53,27 +53,27 @@ fn check_run(rt: &impl Abort, ran: &Ran, want: &[Event]) {
     }
 }
 
-fn take(worker: u32) -> Event {
+pub(crate) fn take(worker: u32) -> Event {
     Event::Take { worker, lane: 0 }
 }
 
-fn give(worker: u32) -> Event {
+pub(crate) fn give(worker: u32) -> Event {
     Event::Give { worker }
 }
 
-fn flag(worker: u32) -> Event {
+pub(crate) fn flag(worker: u32) -> Event {
     Event::Flag { worker }
 }
 
-fn ack(worker: u32) -> Event {
+pub(crate) fn ack(worker: u32) -> Event {
     Event::Ack { worker }
 }
 
-fn hold(worker: u32) -> Event {
+pub(crate) fn hold(worker: u32) -> Event {
     Event::Hold { worker }
 }
 
-fn stretch(worker: u32, turns: u32) -> Event {
+pub(crate) fn stretch(worker: u32, turns: u32) -> Event {
     Event::Stretch { worker, turns }
 }
 

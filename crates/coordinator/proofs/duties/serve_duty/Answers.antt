@@ -4,6 +4,7 @@ use Rattle.grape_hub.specs.declared.work.Duty.{Duty}
 use Rattle.grape_hub.specs.States.{machine, state_of}
 use Rattle.grape_hub.specs.Calls.{ChoosesDuty}
 use Rattle.grape_hub.specs.Notes.{own_in}
+use Rattle.lane_loop.proofs.Steps.{stops_after}
 use Rattle.coordinator.proofs.Causes.{duty_no_disk, still_after_event, still_where_unchanged, still_where_same}
 use Rattle.coordinator.proofs.duties.serve_duty.Goals as goal
 
@@ -37,3 +38,19 @@ returns-in-NoMemory-clause-still g c still =
 
 pub returns-in-NoMemory-clause-others : goal.returns-in-NoMemory-clause-others
 returns-in-NoMemory-clause-others g c k ne = c.stop.ensures.memory refl k ∙ c.duty.ensures.others k ne
+
+pub returns-in-Did-clause-served : goal.returns-in-Did-clause-served
+returns-in-Did-clause-served g c =
+    let old = c.args.hub.now in
+    let new = c.duty.new.self in
+    elim c.in-Did.is [
+      | inl did ↦ (did.0, subst (λ (r : Duty). ChoosesDuty old.hub r new.hub) did.1 c.duty.ensures.chosen)
+      | inr sealed ↦
+          let chosen = subst (λ (r : Duty). ChoosesDuty old.hub r new.hub) sealed.1 c.duty.ensures.chosen in
+          absurd ((c.nothing_is_sealed.ensures old.hub c.stands.ensures.hub.0 c.requires.snapshot).1 sealed.0 chosen.0)
+    ]
+
+pub returns-in-NoMemory-clause-served : goal.returns-in-NoMemory-clause-served
+returns-in-NoMemory-clause-served g c =
+    let same = subst (λ (r : Duty). ChoosesDuty c.args.hub.now.hub r c.duty.new.self.hub) c.in-NoMemory.is c.duty.ensures.chosen in
+    stops_after c.args.hub.now.hub c.duty.new.self.hub c.stop.new.self.hub same c.stop.ensures.stopped

@@ -1,4 +1,4 @@
-use Rattle.std.proofs.Common.{◌≡◌, not, refl, sym, ◌∙◌, ap, subst}
+use Rattle.std.proofs.Common.{◌≡◌, inl, inr, not, refl, sym, ◌∙◌, ap, subst}
 use Rattle.graph_core.specs.declared.job.Job.{Job}
 use Rattle.graph_core.specs.Queries.{equations_of}
 use Rattle.graph_core.specs.Fragments.{fragments_of, fragment_of}
@@ -13,7 +13,7 @@ use Rattle.grape_hub.specs.Theorems.{IsCalm}
 use Rattle.coordinator.specs.Turns.{GoesOn, HasNoDiskStop}
 use Rattle.coordinator.proofs.Causes.{disk_after, disk_after_lane}
 use Rattle.lane_loop.proofs.Parts.{worker_has_part, part_of_worker, evaluates, solves}
-use Rattle.coordinator.proofs.Turns.{took_is_out, stopped_unchanged, given_after_take}
+use Rattle.coordinator.proofs.Turns.{took_is_out, stopped_unchanged, given_after_take, ended_stays}
 use Rattle.coordinator.proofs.turn.serve.Goals as goal
 
 pub next-requires-clause-free : goal.next-requires-clause-free
@@ -80,6 +80,20 @@ returns-in-Took-clause-disk g c =
     disk_after c.next.new.self.hub c.give.new.self.hub (Give c.in-Took.work.worker)
     (given_after_take c.args.hub.now.hub c.next.new.self.hub c.give.new.self.hub c.in-Took.work.worker 0 c.in-Took.work.worker chosen.1 c.give.ensures.given) refl
 
+pub returns-in-Took-clause-goes_on : goal.returns-in-Took-clause-goes_on
+returns-in-Took-clause-goes_on g c =
+    let chosen = subst (λ (r : Next). Chooses c.args.hub.now.hub 0 r c.next.new.self.hub) c.in-Took.is c.next.ensures.chosen in
+    let given = given_after_take c.args.hub.now.hub c.next.new.self.hub c.give.new.self.hub c.in-Took.work.worker 0 c.in-Took.work.worker chosen.1 c.give.ensures.given in
+    inr (c.requires.duty, inr (c.in-Took.work, c.next.new.self.hub, chosen, given))
+
+pub returns-in-Did-clause-goes_on : goal.returns-in-Did-clause-goes_on
+returns-in-Did-clause-goes_on g c = inr (c.requires.duty, inl (c.in-Did.field-0, subst (λ (r : Next). Chooses c.args.hub.now.hub 0 r c.next.new.self.hub) c.in-Did.is c.next.ensures.chosen))
+
+pub returns-in-Ended-clause-goes_on : goal.returns-in-Ended-clause-goes_on
+returns-in-Ended-clause-goes_on g c =
+    let chosen = subst (λ (r : Next). Chooses c.args.hub.now.hub 0 r c.next.new.self.hub) c.in-Ended.is c.next.ensures.chosen in
+    ended_stays c.args.hub.now.hub c.next.new.self.hub chosen.0 chosen.1
+
 pub returns-in-Did-clause-calm : goal.returns-in-Did-clause-calm
 returns-in-Did-clause-calm g c =
     let chosen = subst (λ (r : Next). Chooses c.args.hub.now.hub 0 r c.next.new.self.hub) c.in-Did.is c.next.ensures.chosen in
@@ -103,7 +117,7 @@ pub returns-in-NoMemory : goal.returns-in-NoMemory
 returns-in-NoMemory g c =
     let same = subst (λ (r : Next). Chooses c.args.hub.now.hub 0 r c.next.new.self.hub) c.in-NoMemory.is c.next.ensures.chosen in
     let s = stopped_unchanged c.turns_are_calm.ensures.other c.args.hub.now.hub c.next.new.self.hub c.give_up.new.hub.hub c.requires.calm c.requires.disk same c.next.ensures.hub.0 c.give_up.ensures.stopped c.give_up.ensures.hub.0 in
-    record { same = (s.job, s.counters, s.start); hub = c.give_up.ensures.hub; calm = s.calm; disk = s.disk; goes_on = subst (λ b. GoesOn b c.args.hub.now.hub c.give_up.new.hub.hub) (sym c.give_up.ensures.stays) s.ended }
+    record { same = (s.job, s.counters, s.start); hub = c.give_up.ensures.hub; calm = s.calm; disk = s.disk; goes_on = subst (λ b. GoesOn b c.args.hub.now.hub c.give_up.new.hub.hub) (sym c.give_up.ensures.stays) s.stopped }
 
 pub unreachable-requires : goal.unreachable-requires
 unreachable-requires g c =
