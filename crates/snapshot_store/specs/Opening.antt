@@ -1,7 +1,7 @@
 -- What an open answers.
 use Rattle.std.specs.Prelude.{◌≡◌, ◌≢◌, ℕ, ◌%◌, Bool, true, false, List, Option, Some, None, Result, Ok, Err}
 use Rattle.token_cut.specs.Shapes.{Starts}
-use Rattle.token_cut.specs.Form.{IsInForm}
+use Rattle.token_cut.specs.Form.{IsInSlotForm}
 use Rattle.token_cut.specs.Parts.{SnapshotParts}
 use Rattle.snapshot_store.specs.State.{FileState, file_state, IsKept}
 use Rattle.snapshot_store.specs.State.FileState.{nothing, other, damaged, last}
@@ -27,7 +27,7 @@ NamesBoth digest _ = Unit {0}
 
 -- what was opened is in the form of its slot
 abbrev pub IsFormed : Starts → Result Opened StoreFault → Type 0
-IsFormed shape (Ok (Last store snapshot)) = IsInForm shape (snapshot.epoch % 2) snapshot
+IsFormed shape (Ok (Last store snapshot)) = IsInSlotForm shape (snapshot.epoch % 2) snapshot
 IsFormed shape _ = Unit {0}
 
 -- ---- for the steps of an open

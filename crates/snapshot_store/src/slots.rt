@@ -1,6 +1,6 @@
 // The slots of a file, read back.
 ghost use Rattle.std.specs.Prelude.{◌≡◌, ◌≤◌, ◌<◌, ◌^◌, ◌%◌, length, IfOk, IfSome};
-ghost use Rattle.token_cut.specs.Form.{IsInForm};
+ghost use Rattle.token_cut.specs.Form.{IsInSlotForm};
 ghost use Rattle.token_cut.specs.Shapes.{IsShape};
 ghost use Rattle.snapshot_file.specs.Lengths.{slot_length, file_length};
 ghost use Rattle.snapshot_store.specs.State.{is_first_newest, by_slot, by_slots, slot, slot_place};
@@ -21,7 +21,7 @@ pub(crate) fn read_slots(
     requires shape { IsShape shape.now }
     requires long { file_length shape.now ≤ length bytes.now }
     ensures says { SlotsSay (by_slots shape.now (slot shape.now 0 bytes.now) (slot shape.now 1 bytes.now)) result }
-    ensures form { IfOk result (λ found. IfSome found (λ snapshot. IsInForm shape.now (snapshot.epoch % 2) snapshot)) }
+    ensures form { IfOk result (λ found. IfSome found (λ snapshot. IsInSlotForm shape.now (snapshot.epoch % 2) snapshot)) }
 {
     let size = slot_len(shape);
     let (_, behind) = bytes.split_at(64);
@@ -61,7 +61,7 @@ fn read_slot(
     requires place { place ≡ slot_place shape.now slot }
     requires small { place < 2 ^ 62 }
     ensures says { SlotSays (by_slot shape.now slot bytes.now) result }
-    ensures form { IfOk result (λ snapshot. IsInForm shape.now (snapshot.epoch % 2) snapshot) }
+    ensures form { IfOk result (λ snapshot. IsInSlotForm shape.now (snapshot.epoch % 2) snapshot) }
 {
     let (_, body) = bytes.split_at(1);
     let mut snapshot = Snapshot::fresh(alloc, shape)?;
