@@ -44,3 +44,4 @@ pub mod NotesStay
 pub mod Grounds
 pub mod NoteLaws
 pub mod LanesKept
+pub mod Kepts

@@ -1,5 +1,5 @@
 -- The laws of hubs, as statements.
-use Rattle.std.specs.Prelude.{◌≡◌, ℕ, Bool, true, ◌<◌, ◌≤◌, ◌+◌, ◌*◌, false, IsTrue, List, None, [], ◌∷◌, ◌++◌, Some, length, reverse, slice_index, Contains}
+use Rattle.std.specs.Prelude.{◌≡◌, ℕ, Bool, true, ◌<◌, ◌≤◌, ◌+◌, ◌*◌, false, IsTrue, List, map, Option, None, [], ◌∷◌, ◌++◌, Some, length, reverse, slice_index, Contains}
 use Rattle.graph_core.specs.declared.job.Job.{Job}
 use Rattle.graph_core.specs.Graphs.{IsJob}
 use Rattle.graph_core.specs.Equations.{Assignment, Equations, IsGreatest}
@@ -20,7 +20,7 @@ use Rattle.legal_journal.specs.BaseEvents.{base_of}
 use Rattle.legal_journal.specs.Past.{has_ended}
 use Rattle.legal_journal.specs.Legal.{has_work_out}
 use Rattle.legal_journal.specs.Choices.{duty_choice}
-use Rattle.legal_journal.specs.Cuts.{sealed_snapshot}
+use Rattle.legal_journal.specs.Cuts.{sealed_snapshot, sealed_snapshots, epochs_kept}
 use Rattle.legal_journal.specs.Theorems.{IsConsistentCut}
 use Rattle.grape_hub.specs.HubValues.{HubValues}
 use Rattle.grape_hub.specs.declared.work.Work.{Work}
@@ -112,6 +112,23 @@ SealedMayBeResumed =
     sealed_snapshot (machine h) h.start epoch h.journal.events ≡ Some snapshot →
     IsInForm (machine h) snapshot
     × ((g : Assignment) → IsGreatest (equations_of h.job) g → IsFit (machine h) g (base_state_of h.start) → IsFit (machine h) g (base_state_of snapshot))
+
+-- the epoch that waits to be kept, as a list
+abbrev pub waiting_in : Option ℕ → List ℕ
+waiting_in None = []
+waiting_in (Some epoch) = epoch ∷ []
+
+-- The Kepts of a hub's journal are of its sealed snapshots in order, all but the one that waits to be kept.
+abbrev pub KeptsFollowSeals : Type 0
+KeptsFollowSeals =
+    (h : HubValues) → IsHub h →
+    map (λ s. s.epoch) (sealed_snapshots (machine h) h.start h.journal.events) ≡ epochs_kept h.journal.events ++ waiting_in (sealed_epoch (state_of h).past)
+
+-- Every snapshot that a hub sealed is in the form, so that a hub may begin with it, and from a fit start it is a fit start itself.
+abbrev pub CutsMayBeResumed : Type 0
+CutsMayBeResumed =
+    (h : HubValues) (s : SnapshotParts) → IsHub h → Contains (sealed_snapshots (machine h) h.start h.journal.events) s →
+    IsInForm (machine h) s × ((g : Assignment) → IsGreatest (equations_of h.job) g → IsFit (machine h) g (base_state_of h.start) → IsFit (machine h) g (base_state_of s))
 
 -- The fresh snapshot of every job is in the form and is a fit start.
 abbrev pub FreshIsAStart : Type 0

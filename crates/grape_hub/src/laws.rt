@@ -1,6 +1,6 @@
 ghost use Rattle.graph_core.specs.declared.job.Job.{Job};
 ghost use Rattle.graph_core.specs.Graphs.{IsJob};
-ghost use Rattle.grape_hub.specs.Theorems.{NothingIsSealed, WorksMayBeEvaluated, EvaluatedMayBeGiven, CalmIsFree, CalmAtBeginning, CalmAfterTurn, CalmAfterOther, IdleIsQuiet, OneLaneGoesOn, EndIsQuiet, HubsRun, IsConfluent, QuietIsTheAnswer, JournalIsBounded, CutsAreConsistent, SealedMayBeResumed, FreshIsAStart, WorksStay, LanesStay, GroundsTell, NotesBegin, EmptyIsFree, RecordsTell, WorksTell, CalmIsEmpty};
+ghost use Rattle.grape_hub.specs.Theorems.{NothingIsSealed, WorksMayBeEvaluated, EvaluatedMayBeGiven, CalmIsFree, CalmAtBeginning, CalmAfterTurn, CalmAfterOther, IdleIsQuiet, OneLaneGoesOn, EndIsQuiet, HubsRun, IsConfluent, QuietIsTheAnswer, JournalIsBounded, CutsAreConsistent, SealedMayBeResumed, FreshIsAStart, KeptsFollowSeals, CutsMayBeResumed, WorksStay, LanesStay, GroundsTell, NotesBegin, EmptyIsFree, RecordsTell, WorksTell, CalmIsEmpty};
 
 use pie_core::Pie;
 
@@ -73,6 +73,13 @@ pub fn hubs_are_bounded()
 pub fn cuts_are_consistent()
     ensures cut { CutsAreConsistent }
     ensures resumed { SealedMayBeResumed }
+{}
+
+/// What the Kepts of a hub's journal say was kept are its sealed snapshots in order, all but the one that waits; and a hub
+/// may begin with each of them.
+pub fn kepts_follow_seals()
+    ensures kept { KeptsFollowSeals }
+    ensures resumed { CutsMayBeResumed }
 {}
 
 /// The fresh snapshot of every job is in the form, and is a fit start.

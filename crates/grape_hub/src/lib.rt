@@ -25,7 +25,7 @@ mod work;
 pub use hub::Hub;
 pub use laws::{
     calm_is_empty, cuts_are_consistent, end_is_quiet, every_program_is_confluent, fresh_is_a_start,
-    hubs_are_bounded, hubs_run, idle_is_quiet, notes_tell, nothing_is_sealed, one_lane_goes_on,
-    quiet_is_the_answer, turns_are_calm, works_go_round, works_stay,
+    hubs_are_bounded, hubs_run, idle_is_quiet, kepts_follow_seals, notes_tell, nothing_is_sealed,
+    one_lane_goes_on, quiet_is_the_answer, turns_are_calm, works_go_round, works_stay,
 };
 pub use work::{Duty, Next, Work};

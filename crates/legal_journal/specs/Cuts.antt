@@ -1,7 +1,7 @@
 -- The cut that a sealed snapshot is of.
-use Rattle.std.specs.Prelude.{ℕ, Bool, false, not, ◌==◌, ◌&&◌, ◌||◌, if◌then◌else◌, List, [], ◌∷◌, Option, Some, None, length}
+use Rattle.std.specs.Prelude.{◌≡◌, ℕ, ◌+◌, Bool, false, not, ◌==◌, ◌&&◌, ◌||◌, if◌then◌else◌, List, [], ◌∷◌, Option, Some, None, length}
 use Rattle.grape_event.specs.declared.event.Event.{Event}
-use Rattle.grape_event.specs.declared.event.Event.TheVariants.{Take, Give, Mark, Seal}
+use Rattle.grape_event.specs.declared.event.Event.TheVariants.{Take, Give, Mark, Seal, Kept}
 use Rattle.token_cut.specs.Parts.{SnapshotParts}
 use Rattle.base_machine.specs.Machine.{System, BaseEvent}
 use Rattle.legal_journal.specs.Past.{last_epoch}
@@ -36,3 +36,25 @@ sealed_from sys s epoch (e ∷ journal) = sealed_from sys (state_after sys s e) 
 
 abbrev pub sealed_snapshot : System → SnapshotParts → ℕ → List Event → Option SnapshotParts
 sealed_snapshot sys start epoch journal = sealed_from sys (start_state start) epoch journal
+
+-- ---- all that was sealed, and all that was kept
+
+-- the snapshots that were sealed, in order, each as it was recorded
+abbrev pub snapshots_from : System → State → List Event → List SnapshotParts
+snapshots_from sys s [] = []
+snapshots_from sys s (Seal e ∷ journal) = record { epoch = e; parts = s.recorded } ∷ snapshots_from sys (state_after sys s (Seal e)) journal
+snapshots_from sys s (e ∷ journal) = snapshots_from sys (state_after sys s e) journal
+
+abbrev pub sealed_snapshots : System → SnapshotParts → List Event → List SnapshotParts
+sealed_snapshots sys start journal = snapshots_from sys (start_state start) journal
+
+-- the epochs that were kept, in the order of the list
+abbrev pub epochs_kept : List Event → List ℕ
+epochs_kept [] = []
+epochs_kept (Kept e ∷ journal) = e ∷ epochs_kept journal
+epochs_kept (_ ∷ journal) = epochs_kept journal
+
+-- each epoch is one more than the one before it
+abbrev pub FollowOn : ℕ → List ℕ → Type 0
+FollowOn last [] = Unit {0}
+FollowOn last (e ∷ epochs) = (e ≡ last + 1) × FollowOn e epochs

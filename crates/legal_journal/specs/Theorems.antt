@@ -1,5 +1,5 @@
 -- The theorems on legal journals, as statements.
-use Rattle.std.specs.Prelude.{◌≡◌, ℕ, ◌+◌, ◌*◌, ◌^◌, ◌<◌, ◌≤◌, ◌↔◌, false, IsTrue, List, [], ◌∷◌, ◌++◌, Some, None, length, reverse, count_by, Contains}
+use Rattle.std.specs.Prelude.{◌≡◌, ℕ, ◌+◌, ◌*◌, ◌^◌, ◌<◌, ◌≤◌, ◌↔◌, false, IsTrue, List, [], ◌∷◌, ◌++◌, Some, None, length, map, reverse, count_by, Contains}
 use Rattle.graph_core.specs.Equations.{Assignment, IsGreatest}
 use Rattle.grape_event.specs.declared.event.Event.{Event}
 use Rattle.grape_event.specs.declared.event.Event.TheVariants.{End, Seal}
@@ -14,7 +14,7 @@ use Rattle.legal_journal.specs.Past.{has_ended, took_since_ask, was_sealed, was_
 use Rattle.legal_journal.specs.BaseEvents.{base_of}
 use Rattle.legal_journal.specs.Legal.{State, state_after, state_at_end, is_admitted, IsLegal}
 use Rattle.legal_journal.specs.Choices.{is_of_lane, next_choice, is_duty, duty_choice, run_choice}
-use Rattle.legal_journal.specs.Cuts.{cut_of, after_cut, sealed_snapshot}
+use Rattle.legal_journal.specs.Cuts.{cut_of, after_cut, sealed_snapshot, sealed_snapshots, FollowOn}
 
 -- The Takes and Gives of a legal journal are a run to its state.
 abbrev pub JournalRuns : Type 0
@@ -70,6 +70,24 @@ abbrev pub SealedAreFit : Type 0
 SealedAreFit =
     (sys : System) (g : Assignment) (start : SnapshotParts) (journal : List Event) (epoch : ℕ) (snapshot : SnapshotParts) → IsSound sys → IsGreatest sys.equations g → IsFit sys g (base_state_of start) →
     IsLegal sys start journal → Contains journal (Seal epoch) → sealed_snapshot sys start epoch journal ≡ Some snapshot → IsFit sys g (base_state_of snapshot)
+
+-- Each sealed snapshot has the epoch after that of the one before, and the first the epoch after the start's.
+abbrev pub EpochsFollow : Type 0
+EpochsFollow = (sys : System) (start : SnapshotParts) (journal : List Event) → IsLegal sys start journal → FollowOn start.epoch (map (λ s. s.epoch) (sealed_snapshots sys start journal))
+
+-- The snapshots that were sealed are those that are found by the epochs of the Seals.
+abbrev pub SealedAreFound : Type 0
+SealedAreFound =
+    (sys : System) (start : SnapshotParts) (journal : List Event) (s : SnapshotParts) → IsLegal sys start journal →
+    (Contains (sealed_snapshots sys start journal) s → Contains journal (Seal s.epoch) × (sealed_snapshot sys start s.epoch journal ≡ Some s))
+    × (sealed_snapshot sys start s.epoch journal ≡ Some s → Contains (sealed_snapshots sys start journal) s)
+
+-- A Seal adds the snapshot that is found by its epoch.
+abbrev pub SealsAdd : Type 0
+SealsAdd =
+    (sys : System) (start : SnapshotParts) (journal : List Event) (s : SnapshotParts) → IsLegal sys start (journal ++ Seal s.epoch ∷ []) →
+    sealed_snapshot sys start s.epoch (journal ++ Seal s.epoch ∷ []) ≡ Some s →
+    sealed_snapshots sys start (journal ++ Seal s.epoch ∷ []) ≡ sealed_snapshots sys start journal ++ s ∷ []
 
 -- What a lane chooses is admitted and concerns it, and where it chooses nothing no such event is admitted.
 abbrev pub LaneChoicesAreExact : Type 0

@@ -1,4 +1,4 @@
-ghost use Rattle.legal_journal.specs.Theorems.{JournalRuns, TakesAreBounded, EndIsQuiet, LaneChoicesAreExact, DutiesAreExact, OneLaneGoesOn, RunsGoOn, CutsAreConsistent, EpochsAreInRange, SealedAreInForm, CutsAreFit, SealedAreFit, JournalsGrow, EventsFollowTakes, EventsAreBounded};
+ghost use Rattle.legal_journal.specs.Theorems.{JournalRuns, TakesAreBounded, EndIsQuiet, LaneChoicesAreExact, DutiesAreExact, OneLaneGoesOn, RunsGoOn, CutsAreConsistent, EpochsAreInRange, SealedAreInForm, CutsAreFit, SealedAreFit, JournalsGrow, EventsFollowTakes, EventsAreBounded, EpochsFollow, SealedAreFound, SealsAdd};
 
 /// The Takes and Gives of a legal journal are a run to its state.
 pub fn journal_runs()
@@ -34,6 +34,13 @@ pub fn cuts_are_consistent()
     ensures form { SealedAreInForm }
     ensures fit { CutsAreFit }
     ensures resumed { SealedAreFit }
+{}
+
+/// The snapshots that a legal journal seals have epochs one after another, and are those that are found by the epochs of its Seals.
+pub fn seals_follow_on()
+    ensures epochs { EpochsFollow }
+    ensures found { SealedAreFound }
+    ensures add { SealsAdd }
 {}
 
 /// A legal journal is as long as its Takes allow, and so has at most the bound's number of events.

@@ -8,5 +8,5 @@ mod laws;
 
 pub use laws::{
     choices_are_exact, cuts_are_consistent, end_is_quiet, events_are_bounded, journal_runs,
-    journals_grow, runs_go_on, takes_are_bounded,
+    journals_grow, runs_go_on, seals_follow_on, takes_are_bounded,
 };
