@@ -6,7 +6,7 @@ use Rattle.std.proofs.lemmas.Grind.{same_number_lists}
 use Rattle.grape_port.specs.Ports.{one_more}
 use Rattle.grape_disk.specs.Images.{Torn, Quiet, Same, Writes, AtRest}
 use Rattle.grape_disk.specs.Platters.{Did, wrote, synced, at_rest, after, platter, IsImage, WasImage, ImageSince}
-use Rattle.grape_disk.specs.MemDisks.{MemDiskState, HistoryState, did, is_placed, AreEarlier, content_of, images_of, calls_of, now}
+use Rattle.grape_disk.specs.MemDisks.{MemDiskState, HistoryState, did, has_place_after, AreEarlier, content_of, images_of, calls_of, now}
 use Rattle.grape_disk.specs.Whole.{platter_whole}
 use Rattle.grape_disk.specs.Laws.{whole_image, reads_an_image, since_earlier}
 use Rattle.grape_disk.proofs.Torn.{torn_from}
@@ -110,12 +110,12 @@ earlier_tried calls (Err e) call old new ok err few earlier =
     subst (λ (h : HistoryState). AreEarlier (one_more calls) h.done) (sym err) (earlier_later calls (one_more calls) old.done (omega (arith, few)) earlier)
 
 -- a write that has a place has a number
-pub placed_few : (placed : Bool) (calls room end : ℕ) → placed ≡ is_placed calls room end → placed ≡ true → calls < 2 ^ 64 - 1
-placed_few placed calls room end is there = numbered calls (nat_le end room) (sym is ∙ there)
+pub numbered : (fits : Bool) (calls room end : ℕ) → fits ≡ has_place_after calls room end → fits ≡ true → calls < 2 ^ 64 - 1
+numbered fits calls room end is there = below calls (nat_le end room) (sym is ∙ there)
   where
-    numbered : (calls : ℕ) (fits : Bool) → (nat_lt calls (2 ^ 64 - 1) && fits) ≡ true → calls < 2 ^ 64 - 1
-    numbered calls true there = grind (arith, nat_tests)
-    numbered calls false there = grind (arith, nat_tests)
+    below : (calls : ℕ) (room : Bool) → (nat_lt calls (2 ^ 64 - 1) && room) ≡ true → calls < 2 ^ 64 - 1
+    below calls true there = grind (arith, nat_tests)
+    below calls false there = grind (arith, nat_tests)
 
 torn_same : (at n : ℕ) (c : List ℕ) → Torn at n c c
 torn_same at n c = record { no_shorter = omega arith; no_longer = omega arith; before = λ i long low. refl; behind = λ i long high. refl }

@@ -63,11 +63,11 @@ abbrev pub with : Did → MemDiskState → MemDiskState
 with call s = record s { file = did s.calls call s.file }
 
 -- after so many calls there is a number for the next one, and room up to an end
-abbrev pub is_placed : ℕ → ℕ → ℕ → Bool
-is_placed calls room end = nat_lt calls (2 ^ 64 - 1) && nat_le end room
+abbrev pub has_place_after : ℕ → ℕ → ℕ → Bool
+has_place_after calls room end = nat_lt calls (2 ^ 64 - 1) && nat_le end room
 
 abbrev pub has_place : MemDiskState → ℕ → Bool
-has_place s end = is_placed s.calls s.file.room end
+has_place s end = has_place_after s.calls s.file.room end
 
 -- A failed write is done, and not synced. Where there is no number or no room for it, or no memory for its record, only counts
 -- change.

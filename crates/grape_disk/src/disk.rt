@@ -23,7 +23,9 @@ pub trait Disk {
     /// The calls so far, as a moment.
     ghost moment: { Self → ℕ };
 
-    /// The disk does to its images what each call says.
+    /// The disk does to its images what each call says. So nobody else writes the file, and a sector
+    /// that is being written when the power fails keeps its bytes beside the range of the write
+    /// (power-safe overwrite).
     ghost honest: { Self → Bool };
 
     /// How many calls have failed.

@@ -2,7 +2,7 @@ ghost use Rattle.std.specs.Prelude.{◌≡◌, ◌⊎◌, ◌+◌, ◌-◌, ◌^
 ghost use Rattle.grape_port.specs.Ports.{Rose, one_more};
 ghost use Rattle.grape_disk.specs.Images.{piece, AtRest, Same, Quiet, Writes, Counts};
 ghost use Rattle.grape_disk.specs.Platters.{wrote, synced};
-ghost use Rattle.grape_disk.specs.MemDisks.{new_disk, now, did, refuses, is_stopped, fails_next, is_placed, has_place, FailedWrite, called, failed, forgot, with, AreEarlier, content_of, images_of, calls_of, faults_of, always};
+ghost use Rattle.grape_disk.specs.MemDisks.{new_disk, now, did, refuses, is_stopped, fails_next, has_place_after, has_place, FailedWrite, called, failed, forgot, with, AreEarlier, content_of, images_of, calls_of, faults_of, always};
 ghost use Rattle.grape_disk.specs.Picks.{picked};
 ghost use Rattle.grape_disk.specs.Laws as laws;
 
@@ -126,11 +126,11 @@ fn is_past(stop: Option<u64>, number: u64) -> bool
 // Whether there was a number and room for the write. It is done where there was, and memory for its record.
 fn try_write(file: &mut History, calls: u64, at: u64, from: &[u8]) -> Result<bool, NoMemory>
     requires { at + length from.now ≤ 2 ^ 62 }
-    ensures place { IfOk result (λ placed. placed ≡ is_placed calls file.old.room (at + length from.now)) }
-    ensures done { IfOk result (λ placed. placed ≡ true → file.new ≡ did calls (wrote at from.now) file.old) }
-    ensures not_done { IfOk result (λ placed. placed ≡ false → file.new ≡ file.old) }
+    ensures place { IfOk result (λ fits. fits ≡ has_place_after calls file.old.room (at + length from.now)) }
+    ensures done { IfOk result (λ fits. fits ≡ true → file.new ≡ did calls (wrote at from.now) file.old) }
+    ensures not_done { IfOk result (λ fits. fits ≡ false → file.new ≡ file.old) }
     ensures no_memory { OnErr result (file.new ≡ file.old) }
-    ensures has_place { OnErr result (IsTrue (is_placed calls file.old.room (at + length from.now))) }
+    ensures has_place { OnErr result (IsTrue (has_place_after calls file.old.room (at + length from.now))) }
     ensures earlier { AreEarlier calls file.old.done → AreEarlier (one_more calls) file.new.done }
 {
     if calls == u64::MAX || !file.has_room(at, from.len()) {
@@ -204,10 +204,10 @@ impl Disk for MemDisk {
         let refused = is_refused(moment, &self.fails, self.stop);
         let tried = try_write(&mut self.file, moment, at, from);
         self.calls = moment.saturating_add(1);
-        let Ok(placed) = tried else {
+        let Ok(fits) = tried else {
             return self.forget();
         };
-        if refused || !placed {
+        if refused || !fits {
             self.faults = self.faults.saturating_add(1);
             return Err(Failed);
         }

@@ -17,10 +17,6 @@ drop_behind (x ∷ xs) ys n =
     let e : length (x ∷ xs) + n ≡ suc (length xs + n) = omega arith in
     ap (λ (k : ℕ). drop k (x ∷ xs ++ ys)) e ∙ drop_behind xs ys n
 
--- the first field is wrong
-pub fills_none : (width : ℕ) (widths standing old : List ℕ) (base : ℕ) → FillsUpTo (width ∷ widths) standing old old base base
-fills_none width widths standing old base = record { count = 0; within = omega arith; reach = omega arith; filled = refl }
-
 -- the wrong field is among the first ones
 pub fills_front : (ws more standing behind old kept new : List ℕ) (base place : ℕ) → length standing ≡ length ws → length old ≡ length ws
     → FillsUpTo ws standing old new base place → FillsUpTo (ws ++ more) (standing ++ behind) (old ++ kept) (new ++ kept) base place

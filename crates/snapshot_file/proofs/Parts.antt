@@ -1,6 +1,5 @@
 -- A part that is read from its phase on, then its values, then its mail.
-use Rattle.std.proofs.Common.{◌≡◌, ℕ, ◌+◌, ◌*◌, ◌<◌, nat_le, Bool, true, false, if◌then◌else◌, List, [], ◌∷◌, ◌++◌, map, drop, length, replicate, slice_index, Result, Ok, Err, refl, sym, ap, ◌∙◌, subst, arith, length-append}
-use Rattle.std.proofs.lemmas.Bool.Decides.{nat_tests}
+use Rattle.std.proofs.Common.{◌≡◌, ℕ, ◌+◌, ◌*◌, nat_le, Bool, true, if◌then◌else◌, List, [], ◌∷◌, ◌++◌, map, drop, length, replicate, slice_index, Result, Ok, Err, refl, sym, ap, ◌∙◌, subst, arith, length-append}
 use Rattle.std.proofs.lemmas.List.{length-map, take_at, drop_at}
 use Rattle.value_order.specs.declared.order.Order.{Order}
 use Rattle.token_cut.specs.declared.phase.Phase.{Phase}
@@ -34,13 +33,6 @@ phase_is Rest byte is = ap phase_of (sym is)
 low : (phase : Phase) (byte : ℕ) → phase_byte phase ≡ byte → nat_le byte 1 ≡ true
 low Fresh byte is = ap (λ (b : ℕ). nat_le b 1) (sym is)
 low Rest byte is = ap (λ (b : ℕ). nat_le b 1) (sym is)
-
--- the phase is wrong
-pub phase_wrong : (order : Order) (starts : PartStarts) (at : ℕ) (bytes : List ℕ) → 1 < slice_index bytes 0 → part_decoded order starts at bytes ≡ Err at
-phase_wrong order starts at bytes high =
-    let b = slice_index bytes 0 in
-    let not_low : nat_le b 1 ≡ false = grind (arith, nat_tests) in
-    ap (λ (t : Bool). if t then read_as (part_of starts (phase_of b)) (numbers (value_tests order (phase_of b) starts ++ mail_tests order starts) (at + 1) (drop 1 bytes)) else Err at) not_low
 
 module _ (order : Order) (starts : PartStarts) (at : ℕ) (bytes : List ℕ) (phase : Phase) (phase_at : phase_byte phase ≡ slice_index bytes 0) where
   decoded_is : part_decoded order starts at bytes ≡ read_as (part_of starts phase) (numbers (value_tests order phase starts ++ mail_tests order starts) (at + 1) (drop 1 bytes))

@@ -23,9 +23,6 @@ use Rattle.snapshot_file.specs.Reading.{read_as, read_then, number, numbers, pha
 pub number_front : (n : ℕ) (rest : List ℕ) → n < 2 ^ 64 → number (big_bytes 8 n ++ rest) ≡ n
 number_front n rest fits = big_number-reads_back 8 n rest fits
 
-pub number_behind : (n : ℕ) (rest : List ℕ) → drop 8 (big_bytes 8 n ++ rest) ≡ rest
-number_behind n rest = refl
-
 -- ---- a list of numbers
 
 pub pass_length : (tests : List (ℕ → Bool)) (ns : List ℕ) → Pass tests ns → length ns ≡ length tests
@@ -160,12 +157,6 @@ length_body shape slot snapshot form =
     omega (arith, length-append (big_bytes 8 snapshot.epoch) (flat_map part_bytes snapshot.parts), length_parts shape.order shape.parts snapshot.parts in_form.parts)
 
 -- ---- the loops that write
-
-pub numbers_more : (ns : List ℕ) (i n : ℕ) → i < length ns → n ≡ get_or ns i 0 → number_bytes (drop i ns) ≡ big_bytes 8 n ++ number_bytes (drop (i + 1) ns)
-numbers_more ns i n low is = ap number_bytes (drop_more ns i 0 low) ∙ ap (λ m. big_bytes 8 m ++ number_bytes (drop (i + 1) ns)) (sym is)
-
-pub parts_more : (ps : List PartValues) (i : ℕ) (p : PartValues) → i < length ps → p ≡ get_or ps i p → flat_map part_bytes (drop i ps) ≡ part_bytes p ++ flat_map part_bytes (drop (i + 1) ps)
-parts_more ps i p low is = ap (flat_map part_bytes) (drop_more ps i p low) ∙ ap (λ q. part_bytes q ++ flat_map part_bytes (drop (i + 1) ps)) (sym is)
 
 pub lengths_more : (ps : List PartStarts) (i : ℕ) (p : PartStarts) → i < length ps → p ≡ get_or ps i p → parts_length (drop i ps) ≡ part_length p + parts_length (drop (i + 1) ps)
 lengths_more ps i p low is = ap parts_length (drop_more ps i p low) ∙ ap (λ q. part_length q + parts_length (drop (i + 1) ps)) (sym is)

@@ -1,12 +1,12 @@
 -- The loop that reads the parts of a body, one after another.
-use Rattle.std.proofs.Common.{◌≡◌, ℕ, zero, suc, ◌+◌, ◌<◌, ◌≤◌, List, [], ◌∷◌, ◌++◌, set, get_or, take, drop, length, replicate, sum, Result, Ok, Err, refl, sym, ap, ◌∙◌, subst, arith, append_assoc, length-append}
-use Rattle.std.specs.List.{flat_map, AllByRecursion}
+use Rattle.std.proofs.Common.{◌≡◌, ℕ, zero, suc, ◌+◌, ◌<◌, ◌≤◌, List, [], ◌∷◌, ◌++◌, set, get_or, take, drop, length, replicate, sum, Ok, refl, sym, ap, ◌∙◌, subst, arith, append_assoc, length-append}
+use Rattle.std.specs.List.{flat_map}
 use Rattle.std.proofs.lemmas.List.{length-replicate, take-append-drop, drop_more, take_more, take_more_set, drop-set-lt, drop-drop, drop_all, take_all, append-nil, flat_map_more, length-drop, set_split}
 use Rattle.std.proofs.lemmas.List.Concat.{flat_map-append}
 use Rattle.std.proofs.lemmas.List.Sums.{sum_by-append}
 use Rattle.value_order.specs.declared.order.Order.{Order}
 use Rattle.token_cut.specs.Parts.{PartValues}
-use Rattle.token_cut.specs.Shapes.{PartStarts, IsPartShape, HaveShape}
+use Rattle.token_cut.specs.Shapes.{PartStarts, HaveShape}
 use Rattle.snapshot_file.specs.Fields.{FillsUpTo, part_numbers, part_fields, part_fields_in, parts_fields_in, part_widths}
 use Rattle.snapshot_file.specs.Lengths.{part_length, parts_length}
 use Rattle.snapshot_file.specs.Reading.{part_decoded, parts_decoded, read_as, read_then}
@@ -39,11 +39,6 @@ have_set (starts ∷ shape) (part ∷ parts) zero s p have low s_is has =
     let here : HasPart starts p = subst (λ (x : PartStarts). HasPart x p) s_is has in (here.values, here.mail, have.2)
 have_set (starts ∷ shape) (part ∷ parts) (suc i) s p have low s_is has = (have.0, have.1, have_set shape parts i s p have.2 (omega arith) s_is has)
 
-pub shape_at : (shape : List PartStarts) (i : ℕ) (starts : PartStarts) → AllByRecursion IsPartShape shape → i < length shape → starts ≡ get_or shape i starts → IsPartShape starts
-shape_at [] i s all low s_is = absurd (omega arith)
-shape_at (starts ∷ shape) zero s all low s_is = subst IsPartShape (sym s_is) all.0
-shape_at (starts ∷ shape) (suc i) s all low s_is = shape_at shape i s all.1 (omega arith) s_is
-
 -- ---- widths
 
 pub sum_widths : (starts : PartStarts) → sum (part_widths starts) ≡ part_length starts
@@ -75,23 +70,6 @@ pub record PartsRead (order : Order) (shape : List PartStarts) (at : ℕ) (bytes
   pub room : parts_length (drop i shape) ≤ length rest
   pub left : place + parts_length (drop i shape) ≡ at + parts_length shape
 
-as_it_is : (r : Result (List PartValues) ℕ) → r ≡ read_as (λ (qs : List PartValues). [] ++ qs) r
-as_it_is (Ok qs) = refl
-as_it_is (Err place) = refl
-
-pub none_read : (order : Order) (shape : List PartStarts) (at : ℕ) (bytes : List ℕ) (old : List PartValues) → HaveShape shape old → parts_length shape ≤ length bytes → PartsRead order shape at bytes old 0 at bytes old
-none_read order shape at bytes old have room = record {
-  reads = as_it_is (parts_decoded order shape at bytes);
-  standing = refl;
-  reach = omega arith;
-  width = refl;
-  old_width = refl;
-  kept = refl;
-  have = have;
-  room = room;
-  left = refl;
-}
-
 module _ (order : Order) (shape : List PartStarts) (at : ℕ) (bytes : List ℕ) (old : List PartValues) (i place : ℕ) (rest : List ℕ) (now : List PartValues) (known : PartsRead order shape at bytes old i place rest now)
     (starts : PartStarts) (low : i < length shape) (starts_is : starts ≡ get_or shape i starts) (was : PartValues) (was_is : was ≡ get_or now i was) where
   behind : drop i shape ≡ starts ∷ drop (i + 1) shape
@@ -118,20 +96,9 @@ module _ (order : Order) (shape : List PartStarts) (at : ℕ) (bytes : List ℕ)
   left_here : place + (part_length starts + parts_length (drop (i + 1) shape)) ≡ at + parts_length shape
   left_here = ap (λ (l : List PartStarts). place + parts_length l) (sym behind) ∙ known.left
 
-  pub part_room : part_length starts ≤ length rest
-  part_room = omega (arith, room_here)
-
-  pub place_within : place + part_length starts ≤ at + parts_length shape
-  place_within = omega (arith, left_here)
-
   next_reads : parts_decoded order (drop i shape) place rest
       ≡ read_then (λ part. read_as (λ (qs : List PartValues). part ∷ qs) (parts_decoded order (drop (i + 1) shape) (place + part_length starts) (drop (part_length starts) rest))) (part_decoded order starts place rest)
   next_reads = ap (λ (l : List PartStarts). parts_decoded order l place rest) behind
-
-  pub part_wrong : (wrong : ℕ) → part_decoded order starts place rest ≡ Err wrong → parts_decoded order shape at bytes ≡ Err wrong
-  part_wrong wrong is =
-      known.reads ∙ ap (read_as (λ (qs : List PartValues). take i now ++ qs))
-      (next_reads ∙ ap (read_then (λ part. read_as (λ (qs : List PartValues). part ∷ qs) (parts_decoded order (drop (i + 1) shape) (place + part_length starts) (drop (part_length starts) rest)))) is)
 
   standing_here : parts_fields_in shape bytes ≡ flat_map part_fields (take i now) ++ (part_fields_in starts rest ++ parts_fields_in (drop (i + 1) shape) (drop (part_length starts) rest))
   standing_here = known.standing ∙ ap (λ (l : List PartStarts). flat_map part_fields (take i now) ++ parts_fields_in l rest) behind

@@ -1,6 +1,6 @@
 -- The steps of the loops that read a body.
-use Rattle.std.proofs.Common.{◌≡◌, ℕ, ◌+◌, ◌*◌, ◌<◌, ◌≤◌, Bool, true, false, IsTrue, if◌then◌else◌, List, [], ◌∷◌, ◌++◌, map, set, get_or, drop, length, replicate, sum, Result, Ok, Err, refl, sym, ap, ◌∙◌, subst, arith, append_assoc, length-append}
-use Rattle.std.proofs.lemmas.List.{drop_more, set_at, append-nil, length-replicate, drop-drop, drop_all, length-map, map-append, replicate-append-replicate}
+use Rattle.std.proofs.Common.{◌≡◌, ℕ, ◌+◌, ◌*◌, ◌<◌, Bool, true, false, IsTrue, if◌then◌else◌, List, [], ◌∷◌, ◌++◌, map, set, get_or, drop, length, replicate, sum, Result, Ok, Err, refl, sym, ap, ◌∙◌, subst, arith, append_assoc, length-append}
+use Rattle.std.proofs.lemmas.List.{drop_more, set_at, length-replicate, drop-drop, length-map, map-append, replicate-append-replicate}
 use Rattle.snapshot_file.specs.Reading.{number, numbers, read_as, read_then}
 use Rattle.snapshot_file.specs.Fields.{FillsUpTo, numbers_in}
 use Rattle.snapshot_file.proofs.Filling.{length_in, in_append, in_more, take_in, sum_eights, take_eights, fills_front, fills_behind}
@@ -17,9 +17,6 @@ Reads f starts at bytes i = numbers (map f starts) at bytes ≡ read_as (λ (ns 
 as_it_is : (r : Result (List ℕ) ℕ) → r ≡ read_as (λ (ns : List ℕ). [] ++ ns) r
 as_it_is (Ok ns) = refl
 as_it_is (Err place) = refl
-
-pub reads_none : (f : ℕ → ℕ → Bool) (starts : List ℕ) (at : ℕ) (bytes : List ℕ) → Reads f starts at bytes 0
-reads_none f starts at bytes = as_it_is (numbers (map f starts) at bytes) ∙ ap (λ (a : ℕ). read_as (λ (ns : List ℕ). [] ++ ns) (numbers (map f starts) a bytes)) (omega arith)
 
 module _ (f : ℕ → ℕ → Bool) (starts : List ℕ) (at : ℕ) (bytes : List ℕ) (i : ℕ) (low : i < length starts) where
   next : numbers (map f (drop i starts)) (at + 8 * i) (drop (8 * i) bytes)
@@ -39,20 +36,6 @@ module _ (f : ℕ → ℕ → Bool) (starts : List ℕ) (at : ℕ) (bytes : List
       ∙ ap (λ (a : ℕ). read_as (λ (ns : List ℕ). numbers_in (i + 1) bytes ++ ns) (numbers (map f (drop (i + 1) starts)) a (drop 8 B))) place
       ∙ ap (λ (l : List ℕ). read_as (λ (ns : List ℕ). numbers_in (i + 1) bytes ++ ns) (numbers (map f (drop (i + 1) starts)) (at + 8 * (i + 1)) l)) behind
 
-  pub reads_wrong : f (get_or starts i 0) (number (drop (8 * i) bytes)) ≡ false → Reads f starts at bytes i → numbers (map f starts) at bytes ≡ Err (at + 8 * i)
-  reads_wrong fails reads =
-      let B = drop (8 * i) bytes in
-      reads
-      ∙ ap (read_as (λ (ns : List ℕ). numbers_in i bytes ++ ns))
-      (next
-      ∙ ap (λ (b : Bool). if b then read_as (λ (ns : List ℕ). number B ∷ ns) (numbers (map f (drop (i + 1) starts)) (at + 8 * i + 8) (drop 8 B)) else Err (at + 8 * i)) fails)
-
-pub reads_all : (f : ℕ → ℕ → Bool) (starts : List ℕ) (at : ℕ) (bytes : List ℕ) (i : ℕ) → length starts ≤ i → Reads f starts at bytes i → numbers (map f starts) at bytes ≡ Ok (numbers_in i bytes)
-reads_all f starts at bytes i high reads =
-    reads
-    ∙ ap (λ (l : List ℕ). read_as (λ (ns : List ℕ). numbers_in i bytes ++ ns) (numbers (map f l) (at + 8 * i) (drop (8 * i) bytes))) (drop_all i starts high)
-    ∙ ap Ok (append-nil (numbers_in i bytes))
-
 -- ---- what the loop leaves in the place of the numbers
 
 pub filled_more : (i : ℕ) (bytes old now : List ℕ) → i < length old → now ≡ numbers_in i bytes ++ drop i old → set now i (number (drop (8 * i) bytes)) ≡ numbers_in (i + 1) bytes ++ drop (i + 1) old
@@ -63,9 +46,6 @@ filled_more i bytes old now low is =
     ∙ set_at (numbers_in i bytes) (get_or old i 0) (drop (i + 1) old) n i (length_in i bytes)
     ∙ sym (append_assoc (numbers_in i bytes) (n ∷ []) (drop (i + 1) old))
     ∙ ap (λ (l : List ℕ). l ++ drop (i + 1) old) (sym (in_more i bytes))
-
-pub filled_all : (i : ℕ) (bytes old now : List ℕ) → length old ≤ i → now ≡ numbers_in i bytes ++ drop i old → now ≡ numbers_in i bytes
-filled_all i bytes old now high is = is ∙ ap (λ (l : List ℕ). numbers_in i bytes ++ l) (drop_all i old high) ∙ append-nil (numbers_in i bytes)
 
 pub fills_at : (i n : ℕ) (bytes old now : List ℕ) (at place : ℕ) → i < n → now ≡ numbers_in i bytes ++ drop i old → place ≡ at + 8 * i → FillsUpTo (replicate n 8) (numbers_in n bytes) old now at place
 fills_at i n bytes old now at place low is here = record {

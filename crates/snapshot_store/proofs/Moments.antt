@@ -1,24 +1,12 @@
 -- How the images since a moment grow over the calls of a disk.
-use Rattle.std.proofs.Common.{inl, inr, ⊎_elim, ℕ, ◌+◌, ◌≤◌, List, length, Option, subst, arith}
-use Rattle.grape_disk.specs.Images.{AtRest, Quiet, Writes, Leaves, Torn}
+use Rattle.std.proofs.Common.{inl, inr, ⊎_elim, ℕ, ◌≤◌, List, length, Option, arith}
+use Rattle.grape_disk.specs.Images.{Quiet, Writes, Leaves, Torn}
 use Rattle.snapshot_store.specs.Lengths.{StaysWithin}
 
 module _ {D : Type 0} (content : D → Option (List ℕ)) (images : D → ℕ → List ℕ → Type 0) (moment : D → ℕ) where
-  -- no call made
-  pub leaves_nothing : (disk : D) (P : List ℕ → Type 0) → Leaves images moment disk disk P
-  leaves_nothing disk P = record { later = omega arith; each = λ t c le image. inl image }
-
   -- a call that writes nothing
   pub leaves_quiet : (old new : D) (P : List ℕ → Type 0) → moment old ≤ moment new → Quiet images moment old new → Leaves images moment old new P
   leaves_quiet old new P later quiet = record { later = later; each = λ t c le image. inl (quiet.since t c le image) }
-
-  -- a write to a disk with nothing pending
-  pub leaves_write : (old new : D) (file : List ℕ) (at n : ℕ) → moment old ≤ moment new → AtRest content images moment old file → Writes images moment at n old new
-      → Leaves images moment old new (Torn at n file)
-  leaves_write old new file at n later rest writes = record {
-    later = later;
-    each = λ t c le image. ⊎_elim (λ before. inl before) (λ torn. inr (subst (λ f. Torn at n f c) (rest.only torn.0 torn.1) torn.2)) (writes.since t c le image);
-  }
 
   -- one step after another
   pub leaves_then : (old mid new : D) (P Q R : List ℕ → Type 0) → Leaves images moment old mid P → Leaves images moment mid new Q → ((c : List ℕ) → P c → R c) → ((c : List ℕ) → Q c → R c)
@@ -66,10 +54,3 @@ module _ {D : Type 0} (images : D → ℕ → List ℕ → Type 0) (moment : D �
   -- a call that writes nothing
   pub within_quiet : (old new : D) (most : ℕ) → moment old ≤ moment new → Quiet images moment old new → StaysWithin images moment most old new
   within_quiet old new most later quiet all = record { later = later; each = λ t c le image. inl (quiet.since t c le image) }
-
-  -- a write that ends within them
-  pub within_write : (old new : D) (most at n : ℕ) → moment old ≤ moment new → at + n ≤ most → Writes images moment at n old new → StaysWithin images moment most old new
-  within_write old new most at n later end writes all = record {
-    later = later;
-    each = λ t c le image. ⊎_elim (λ before. inl before) (λ torn. let low = all torn.0 torn.1 in inr (omega (arith, low, end, torn.2.no_longer))) (writes.since t c le image);
-  }

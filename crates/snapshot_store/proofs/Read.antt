@@ -1,5 +1,5 @@
 -- What the steps of an open tell of the whole file.
-use Rattle.std.proofs.Common.{◌≡◌, ℕ, ◌+◌, ◌<◌, ◌≤◌, Bool, true, false, not, ◌||◌, nat_lt, if◌then◌else◌, List, [], ◌∷◌, ◌++◌, map, replicate, slice_index, ◌==◌, take, drop, length, Option, Some, None, is_some, Result, Ok, Err, refl, sym, ap, ◌∙◌, subst, arith, length-append}
+use Rattle.std.proofs.Common.{◌≡◌, ℕ, ◌+◌, ◌≤◌, Bool, true, false, not, ◌||◌, nat_lt, if◌then◌else◌, List, [], ◌∷◌, ◌++◌, map, replicate, slice_index, ◌==◌, take, drop, length, Option, Some, is_some, Result, Ok, Err, refl, sym, ap, ◌∙◌, subst, arith, length-append}
 use Rattle.std.proofs.lemmas.Bool.Decides.{nat_tests}
 use Rattle.std.proofs.lemmas.List.{length-replicate, get_or-take, take_at, drop-drop}
 use Rattle.byteorder.specs.Endian.{big_bytes}
@@ -8,8 +8,8 @@ use Rattle.grape_disk.specs.Images.{piece}
 use Rattle.token_cut.specs.Parts.{SnapshotParts}
 use Rattle.token_cut.specs.Shapes.{PartStarts, Starts, HaveShape, fresh_part}
 use Rattle.snapshot_file.specs.Lengths.{slot_length, file_length}
-use Rattle.snapshot_store.specs.State.{FileState, OPEN, NAME, front_bytes, is_open, first_wrong, damaged_if, header, by_header, is_first_newest, by_slot, by_slots, or_by_slots, slot, slot_place, file_state, IsKept, HasEpoch}
-use Rattle.snapshot_store.specs.State.FileState.{nothing, other, last}
+use Rattle.snapshot_store.specs.State.{FileState, OPEN, NAME, front_bytes, is_open, first_wrong, damaged_if, header, by_header, is_first_newest, by_slot, by_slots, slot, slot_place}
+use Rattle.snapshot_store.specs.State.FileState.{nothing, other}
 use Rattle.snapshot_store.specs.Opening.{SlotSays, SlotsSay}
 use Rattle.snapshot_store.specs.declared.fault.StoreFault.{StoreFault}
 use Rattle.snapshot_store.specs.declared.fault.StoreFault.TheVariants.{Disk, Other, Damaged, NoMemory}
@@ -28,14 +28,6 @@ module _ (shape : Starts) (digest : List ℕ) (size : ℕ) (front : List ℕ) wh
   abbrev says : Bool → Bool → Bool → Option ℕ → Option FileState
   says closed differs short place = if closed then Some nothing else if differs then Some (other (piece 8 32 front)) else if short then Some nothing else damaged_if place
 
-  pub shut_says : is_open front ≡ false → by_header shape digest size front ≡ Some nothing
-  shut_says shut = closed_case (nat_lt size 64) (is_open front) _ _ shut
-    where
-      closed_case : (a b : Bool) (x y : Option FileState) → b ≡ false → (if a || not b then x else y) ≡ x
-      closed_case true b x y is = refl
-      closed_case false true x y is = cc
-      closed_case false false x y is = refl
-
   open_says : (differs short : Bool) (place : Option ℕ) → 64 ≤ size → is_open front ≡ true → is_some wrong ≡ differs → nat_lt size (file_length shape) ≡ short → first_wrong (header shape digest) 1 (drop 1 front) ≡ place
       → by_header shape digest size front ≡ says false differs short place
   open_says differs short place long opened d s p =
@@ -52,12 +44,6 @@ module _ (shape : Starts) (digest : List ℕ) (size : ℕ) (front : List ℕ) wh
 
   pub other_says : 64 ≤ size → is_open front ≡ true → is_some wrong ≡ true → by_header shape digest size front ≡ Some (other (piece 8 32 front))
   other_says long opened differs = open_says true (nat_lt size (file_length shape)) (first_wrong (header shape digest) 1 (drop 1 front)) long opened differs refl refl
-
-  pub short_says : 64 ≤ size → is_open front ≡ true → is_some wrong ≡ false → size < file_length shape → by_header shape digest size front ≡ Some nothing
-  short_says long opened differs short = open_says false true (first_wrong (header shape digest) 1 (drop 1 front)) long opened differs (less size (file_length shape) short) refl
-    where
-      less : (m n : ℕ) → m < n → nat_lt m n ≡ true
-      less m n low = grind (arith, nat_tests)
 
   pub named_says : (place : Option ℕ) → 64 ≤ size → is_open front ≡ true → is_some wrong ≡ false → file_length shape ≤ size → first_wrong (header shape digest) 1 (drop 1 front) ≡ place → by_header shape digest size front ≡ damaged_if place
   named_says place long opened differs whole is = open_says false false place long opened differs (not_less size (file_length shape) whole) is
@@ -85,18 +71,6 @@ first_of false x y is = cc
 second_of : (c : Bool) (x y : FileState) → c ≡ false → (if c then x else y) ≡ y
 second_of true x y is = cc
 second_of false x y is = refl
-
--- ---- the file
-
-module _ (shape : Starts) (digest file : List ℕ) where
-  pub by_front : (state : FileState) → by_header shape digest (length file) (take 64 file) ≡ Some state → file_state shape digest file ≡ state
-  by_front state is = ap (λ (o : Option FileState). or_by_slots o (by_slots shape (slot shape 0 file) (slot shape 1 file))) is
-
-  pub by_both : (state : FileState) → by_header shape digest (length file) (take 64 file) ≡ None → by_slots shape (slot shape 0 file) (slot shape 1 file) ≡ state → file_state shape digest file ≡ state
-  by_both state none is = ap (λ (o : Option FileState). or_by_slots o (by_slots shape (slot shape 0 file) (slot shape 1 file))) none ∙ is
-
-  pub last_kept : (snapshot : SnapshotParts) → by_header shape digest (length file) (take 64 file) ≡ None → by_slots shape (slot shape 0 file) (slot shape 1 file) ≡ last snapshot → IsKept shape digest snapshot.epoch file
-  last_kept snapshot none is = record { whole = none; kept = subst (HasEpoch snapshot.epoch) (sym is) refl }
 
 -- ---- what the steps hand on
 

@@ -1,7 +1,7 @@
 use Rattle.std.proofs.Common.{arith, ◌≡◌, true, false, length, subst, sym}
 use Rattle.grape_disk.specs.Images.{Writes}
 use Rattle.grape_disk.specs.MemDisks.{MemDiskState, images_of, calls_of}
-use Rattle.grape_disk.proofs.Moments.{placed_few, writes_from}
+use Rattle.grape_disk.proofs.Moments.{numbered, writes_from}
 use Rattle.grape_disk.proofs.mem_disk.MemDiskDisk.write_at.Goals as goal
 
 pub returns-in_default-clause-writes : goal.returns-in_default-clause-writes
@@ -14,11 +14,11 @@ returns-in_default-clause-writes c =
 pub returns-then-refused-clause-writes : goal.returns-then-refused-clause-writes
 returns-then-refused-clause-writes c =
     let tried = c.in-Ok.ensures in
-    writes_from _ _ _ c.args.at c.args.from.now c.in-Ok.placed c.self.view_is (placed_few _ _ _ _ tried.place) tried.done tried.not_done c.saturating_add-self-inside.ensures
+    writes_from _ _ _ c.args.at c.args.from.now c.in-Ok.fits c.self.view_is (numbered _ _ _ _ tried.place) tried.done tried.not_done c.saturating_add-self-inside.ensures
     (omega (arith, c.saturating_add-self-inside.ensures)) c.self.invariant
 
 pub returns-clause-writes : goal.returns-clause-writes
 returns-clause-writes c =
     let tried = c.in-Ok.ensures in
-    writes_from _ _ _ c.args.at c.args.from.now c.in-Ok.placed c.self.view_is (placed_few _ _ _ _ tried.place) tried.done tried.not_done c.saturating_add-self-inside.ensures
+    writes_from _ _ _ c.args.at c.args.from.now c.in-Ok.fits c.self.view_is (numbered _ _ _ _ tried.place) tried.done tried.not_done c.saturating_add-self-inside.ensures
     (omega (arith, c.saturating_add-self-inside.ensures)) c.self.invariant
