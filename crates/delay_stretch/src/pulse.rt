@@ -53,17 +53,17 @@ impl Pulse {
     /// For how many turns the worker lets mail gather, while so many batches wait for it. Under `Aap` it is the mean gap
     /// between the last eight arrivals, rounded down, for each batch that is missing to `l`, and at most 64; it is 0
     /// where no batch is missing or fewer than two have arrived, and under the other policies.
-    pub fn stretch(&self, policy: &Policy, waiting: u64) -> u32
-        ensures turns { result ≡ stretch_turns policy.now waiting self.now }
+    pub fn stretch(&self, policy: &Policy, batches: u64) -> u32
+        ensures turns { result ≡ stretch_turns policy.now batches self.now }
         ensures few { result ≤ 64 }
     {
         match *policy {
             Policy::Aap { c: _, l } => {
                 let enough = u64::from(l);
-                if self.clocks.len() < 2 || enough <= waiting {
+                if self.clocks.len() < 2 || enough <= batches {
                     return 0;
                 }
-                let missing = enough - waiting;
+                let missing = enough - batches;
                 missing.saturating_mul(self.mean_gap()).min(MOST_TURNS) as u32
             }
             Policy::Bsp | Policy::Ap | Policy::Ssp { .. } => 0,

@@ -52,6 +52,9 @@ written_whole n xs ys e f = ap (λ l. take n (xs ++ l)) (no_rest xs ys e) ∙ (a
 pub may_here : {h now : HubValues} {lane : ℕ} {work : Work} → h ≡ now → MayGive now lane work → MayGive h lane work
 may_here {lane = lane} {work = work} e may = subst (λ (h : HubValues). MayGive h lane work) (sym e) may
 
+pub going_here : {h now : HubValues} → h ≡ now → has_ended (reverse now.journal.events) ≡ false → has_ended (reverse h.journal.events) ≡ false
+going_here e going = ap (λ (h : HubValues). has_ended (reverse h.journal.events)) e ∙ going
+
 -- ---- what is owed
 
 some_owed : (a k n : ℕ) → a + k + 1 ≤ n → 1 ≤ n

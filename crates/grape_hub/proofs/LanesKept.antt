@@ -401,8 +401,8 @@ record_there (r ∷ rs) zero out = omega arith
 record_there (r ∷ rs) (suc k) out = let l = record_there rs k out in omega (arith, l)
 
 -- the journal hadn't ended
-pub unless_going : (old new : HubValues) (e : Event) → has_ended (reverse old.journal.events) ≡ false → AppendedUnlessEnded old e new → Appended old e new
-unless_going old new e going more = subst (λ (b : Bool). MatchBool b (new ≡ old) (Appended old e new)) going more
+pub appended_going : (old new : HubValues) (e : Event) → has_ended (reverse old.journal.events) ≡ false → Appended old e new → AppendedUnlessEnded old e new
+appended_going old new e going more = subst (λ (b : Bool). MatchBool b (new ≡ old) (Appended old e new)) (sym going) more
 
 -- a Give before the end
 pub give_keeps : (x y : LanedHub) (lane : ℕ) (work : Work) (r : LaneRecord) → IsLanedHub x → IsHub y.hub → is_out_at x lane ≡ true → MayGive x.hub lane work → Appended x.hub (Give work.worker) y.hub → r.out ≡ false →

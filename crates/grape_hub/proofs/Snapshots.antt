@@ -16,7 +16,7 @@ use Rattle.grape_hub.specs.Calls.{MayKeep}
 use Rattle.grape_hub.proofs.Hubs.{past_of, ended_is}
 
 -- Over the words of a past: the last epoch, how often a snapshot is asked for, whether a recording is open, the epoch that is sealed and not kept yet, and which epochs were sealed, kept and begun.
-pub record AreInTurn (last every : ℕ) (opened : Bool) (waiting : Option ℕ) (sealed kept begun : ℕ → Bool) : Type 0 where
+pub record AreInTurn (last every : ℕ) (opened : Bool) (unkept : Option ℕ) (sealed kept begun : ℕ → Bool) : Type 0 where
   pub kept_are_sealed : (e : ℕ) → kept e ≡ true → sealed e ≡ true
   pub begun_are_sealed : (e : ℕ) → begun e ≡ true → (sealed e ≡ true) ⊎ ((opened ≡ true) × (e ≡ last))
   -- no epoch past the last one is sealed
@@ -24,12 +24,12 @@ pub record AreInTurn (last every : ℕ) (opened : Bool) (waiting : Option ℕ) (
   -- while a recording is open, its epoch isn't sealed, what was sealed is kept, and snapshots are asked for
   pub was_begun : opened ≡ true → begun last ≡ true
   pub unsealed : opened ≡ true → sealed last ≡ false
-  pub none : opened ≡ true → waiting ≡ None
+  pub none : opened ≡ true → unkept ≡ None
   pub asked : opened ≡ true → 1 ≤ every
   -- the epoch that is sealed and not kept yet is the last one, and no recording is open
-  pub waits : (e : ℕ) → waiting ≡ Some e → (sealed e ≡ true) × (kept e ≡ false) × (opened ≡ false) × (e ≡ last) × (begun e ≡ true)
+  pub waits : (e : ℕ) → unkept ≡ Some e → (sealed e ≡ true) × (kept e ≡ false) × (opened ≡ false) × (e ≡ last) × (begun e ≡ true)
   -- what is sealed is kept, but for that epoch
-  pub others : (e : ℕ) → sealed e ≡ true → (kept e ≡ true) ⊎ (waiting ≡ Some e)
+  pub others : (e : ℕ) → sealed e ≡ true → (kept e ≡ true) ⊎ (unkept ≡ Some e)
 
 abbrev pub SnapshotsAreInTurn : System → State → Type 0
 SnapshotsAreInTurn sys s =
@@ -169,8 +169,8 @@ turn_kept sys s (Mark i) h p = p
 turn_kept sys s End h p = p
 turn_kept sys s (Stop c) h p = p
 
-pub first_in_turn : (sys : System) (start : SnapshotParts) → SnapshotsAreInTurn sys (start_state start)
-first_in_turn sys start = record {
+pub begins_in_turn : (sys : System) (start : SnapshotParts) → SnapshotsAreInTurn sys (start_state start)
+begins_in_turn sys start = record {
   kept_are_sealed = λ e q. absurd (false≢true q);
   begun_are_sealed = λ e q. absurd (false≢true q);
   low = λ e q. absurd (false≢true q);
@@ -187,7 +187,7 @@ first_in_turn sys start = record {
 pub snapshots_of : (h : HubValues) → IsHub h → SnapshotsAreInTurn (machine h) (state_of h)
 snapshots_of h k =
     kept_along (machine h) (SnapshotsAreInTurn (machine h)) (λ s e a p. turn_kept (machine h) s e (and_parts (not (has_ended s.past)) (row_admits (machine h) s e) a).1 p)
-    h.journal.events (start_state h.start) k.legal (first_in_turn (machine h) h.start)
+    h.journal.events (start_state h.start) k.legal (begins_in_turn (machine h) h.start)
 
 -- what is sealed and not kept yet may be kept
 pub may_keep : (h : HubValues) (epoch : ℕ) → IsHub h → has_ended (reverse h.journal.events) ≡ false → MayKeep h epoch → is_admitted (machine h) (state_of h) (Kept epoch) ≡ true

@@ -10,7 +10,7 @@ use Rattle.legal_journal.proofs.Walks.{kept_along}
 use Rattle.legal_journal.proofs.Choosing.{duties_are_exact}
 use Rattle.grape_hub.specs.States.{machine, state_of, sealed_epoch}
 use Rattle.grape_hub.specs.Theorems.{NothingIsSealed}
-use Rattle.grape_hub.proofs.Snapshots.{SnapshotsAreInTurn, turn_kept, first_in_turn}
+use Rattle.grape_hub.proofs.Snapshots.{SnapshotsAreInTurn, turn_kept, begins_in_turn}
 
 -- a Seal needs an open recording, and so snapshots that are asked for
 never_seals : (sys : System) (s : State) (epoch : ℕ) → sys.settings.snapshot ≡ 0 → SnapshotsAreInTurn sys s → row_admits sys s (Seal epoch) ≡ true → ⊥
@@ -43,7 +43,7 @@ pub nothing_is_sealed : NothingIsSealed
 nothing_is_sealed h hub none =
     let sys = machine h in
     let s = state_of h in
-    let kept = kept_along sys (IsUnsealed sys) (λ q e a p. stays_unsealed sys q e (and_parts (not (has_ended q.past)) (row_admits sys q e) a).1 p) h.journal.events (start_state h.start) hub.legal (first_in_turn sys h.start, λ z. refl) in (
+    let kept = kept_along sys (IsUnsealed sys) (λ q e a p. stays_unsealed sys q e (and_parts (not (has_ended q.past)) (row_admits sys q e) a).1 p) h.journal.events (start_state h.start) hub.legal (begins_in_turn sys h.start, λ z. refl) in (
       kept.1 none,
       λ epoch chosen.
           let a = ((duties_are_exact sys s).0 (Seal epoch) chosen).0 in

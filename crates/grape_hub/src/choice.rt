@@ -159,7 +159,7 @@ fn first_between(
 }
 
 /// The first worker in turn whose desk admits the kind.
-fn first_in_turn(
+fn first_from_turn(
     kind: Kind,
     sight: &Sight,
     probe: &Probe,
@@ -194,7 +194,7 @@ pub fn first_of_kinds(
     ensures { result ≡ first_of_kinds sight.now probe.now cut.now desks.now turn kinds }
 {
     'kinds: for kind in KINDS {
-        if let Some(worker) = first_in_turn(kind, sight, probe, cut, desks, turn) {
+        if let Some(worker) = first_from_turn(kind, sight, probe, cut, desks, turn) {
             return Some((kind, worker));
         }
     }

@@ -122,19 +122,17 @@ impl<P: Pie, Q: Pacer> Engine<P, Q> {
     /// recording, or else a Take of a worker that may go on, a Stretch, an answer to the probe, a Flag or a Hold, in
     /// turn from the worker after that of the last Take. While a recording is open an unmarked worker for which a batch
     /// with its token waits doesn't take, and while a snapshot is due nobody takes. `Idle` comes exactly where none is
-    /// admitted and the journal hasn't ended, and `Ended` where it has. The lane has no Work out. Room for the event,
-    /// for a Give of each worker that is out, for the Kept of a sealed snapshot and for a Stop is made first; then the
-    /// worker's pacer is asked, once for each Stretch.
+    /// admitted. The journal hasn't ended, and the lane has no Work out. Room for the event, for a Give of each worker
+    /// that is out, for the Kept of a sealed snapshot and for a Stop is made first; then the worker's pacer is asked,
+    /// once for each Stretch.
     pub fn next(&mut self, lane: u32) -> Next
         requires lane { lane < self.old.job.settings.lanes }
         requires free { has_work_out (state_of self.old) lane ≡ false }
+        requires going { has_ended (reverse self.old.journal.events) ≡ false }
         ensures chosen { Chooses self.old lane result self.new }
         ensures ready { ReadyWhereTook self.new result }
         ensures hub { IsHub self.new }
     {
-        if self.journal.ended() {
-            return Next::Ended;
-        }
         let Some((kind, worker)) = self.choice(lane) else {
             return Next::Idle;
         };
@@ -396,15 +394,13 @@ impl<P: Pie, Q: Pacer> Engine<P, Q> {
     /// Appends the Give of the Work that the lane has out, and sends each owned value that became lower along its
     /// routes. The values are the local solution of those at the Take lowered by the hand. While a recording is open
     /// the batches of a marked worker carry its token, and those of another lower what is recorded of marked workers.
-    /// Where the journal has ended nothing is appended, and the values are given up. Takes no memory.
+    /// The journal hasn't ended. Takes no memory.
     pub fn give(&mut self, lane: u32, work: Work)
-        requires { MayGive self.old lane work }
-        ensures given { AppendedUnlessEnded self.old (Give work.worker) self.new }
+        requires work { MayGive self.old lane work }
+        requires going { has_ended (reverse self.old.journal.events) ≡ false }
+        ensures given { Appended self.old (Give work.worker) self.new }
         ensures hub { IsHub self.new }
     {
-        if self.journal.ended() {
-            return;
-        }
         let Work {
             worker,
             mut local,

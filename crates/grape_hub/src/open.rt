@@ -152,13 +152,13 @@ fn shapes_of(alloc: Global, fragments: &[Fragment]) -> Result<Vec<ShapePart>, No
 {
     let mut parts = Vec::with_capacity(alloc, fragments.len())?;
     'parts: for part in fragments {
-        parts.push(shape_of(alloc, part)?)?;
+        parts.push(shape_part(alloc, part)?)?;
     }
     Ok(parts)
 }
 
 /// A shape with the sizes of a fragment.
-fn shape_of(alloc: Global, part: &Fragment) -> Result<ShapePart, NoMemory>
+fn shape_part(alloc: Global, part: &Fragment) -> Result<ShapePart, NoMemory>
     ensures { IfOk result (λ shape. HasPlacesOf part.now shape) }
 {
     Ok(ShapePart {

@@ -9,11 +9,11 @@ kinds-init c = record { same = refl }
 
 pub returns-in-Some : goal.returns-in-Some
 returns-in-Some c =
-    sym (c.kinds.invariant.same ∙ kind_found c.args.sight.now c.args.probe.now c.args.cut.now c.args.desks.now c.args.turn kinds c.kinds.kind-index c.in-Some.worker kind.Mark c.kinds-test.true (sym c.first_in_turn.ensures ∙ c.in-Some.is))
+    sym (c.kinds.invariant.same ∙ kind_found c.args.sight.now c.args.probe.now c.args.cut.now c.args.desks.now c.args.turn kinds c.kinds.kind-index c.in-Some.worker kind.Mark c.kinds-test.true (sym c.first_from_turn.ensures ∙ c.in-Some.is))
 
 pub kinds-preserved : goal.kinds-preserved
 kinds-preserved c =
-    record { same = c.kinds.invariant.same ∙ kind_missing c.args.sight.now c.args.probe.now c.args.cut.now c.args.desks.now c.args.turn kinds c.kinds.kind-index kind.Mark c.kinds-test.true (sym c.first_in_turn.ensures ∙ c.in_default.is) }
+    record { same = c.kinds.invariant.same ∙ kind_missing c.args.sight.now c.args.probe.now c.args.cut.now c.args.desks.now c.args.turn kinds c.kinds.kind-index kind.Mark c.kinds-test.true (sym c.first_from_turn.ensures ∙ c.in_default.is) }
 
 pub returns : goal.returns
 returns c = sym (c.kinds.invariant.same ∙ no_kind_left c.args.sight.now c.args.probe.now c.args.cut.now c.args.desks.now c.args.turn kinds c.kinds.kind-index c.kinds-test.false)

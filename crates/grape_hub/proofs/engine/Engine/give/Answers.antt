@@ -11,38 +11,38 @@ use Rattle.grape_hub.proofs.engine.Engine.give.Goals as goal
 
 pub push-requires : goal.push-requires
 push-requires g c =
-    Gives.one_spare c.self.invariant.1 c.self.invariant.2 (Gives.may_here c.self.view_is c.requires) (sym c.ended.ensures ∙ c.if-ended.false)
+    Gives.one_spare c.self.invariant.1 c.self.invariant.2 (Gives.may_here c.self.view_is c.requires.work) (Gives.going_here c.self.view_is c.requires.going)
 
 pub index-requires : goal.index-requires
 index-requires g c =
-    let r = Gives.desk_within c.self.invariant.1 c.self.invariant.2 (Gives.may_here c.self.view_is c.requires) (sym c.ended.ensures ∙ c.if-ended.false) in
+    let r = Gives.desk_within c.self.invariant.1 c.self.invariant.2 (Gives.may_here c.self.view_is c.requires.work) (Gives.going_here c.self.view_is c.requires.going) in
     let n = c.self.inside.desks.ok.0 in
     omega (arith, r, n)
 
 pub overflow_add-round : goal.overflow_add-round
 overflow_add-round g c =
-    let may = Gives.may_here c.self.view_is c.requires in
-    let r = Gives.round_fits c.self.invariant.1 c.self.invariant.2 may (sym c.ended.ensures ∙ c.if-ended.false) c.index.result.now c.push.new.self.events c.push.ensures.events c.push.ensures.short in
+    let may = Gives.may_here c.self.view_is c.requires.work in
+    let r = Gives.round_fits c.self.invariant.1 c.self.invariant.2 may (Gives.going_here c.self.view_is c.requires.going) c.index.result.now c.push.new.self.events c.push.ensures.events c.push.ensures.short in
     let e = ap (λ (d : Desk). d.round) c.index.ensures in
     omega (arith, r, e)
 
 pub index-routes-requires : goal.index-routes-requires
 index-routes-requires g c =
-    let r = Gives.routes_within c.self.invariant.1 c.self.invariant.2 (Gives.may_here c.self.view_is c.requires) (sym c.ended.ensures ∙ c.if-ended.false) in
+    let r = Gives.routes_within c.self.invariant.1 c.self.invariant.2 (Gives.may_here c.self.view_is c.requires.work) (Gives.going_here c.self.view_is c.requires.going) in
     let n = c.self.inside.routes.ok.0 in
     omega (arith, r, n)
 
 pub post_changes-requires-clause-rows : goal.post_changes-requires-clause-rows
 post_changes-requires-clause-rows g c =
-    let may = Gives.may_here c.self.view_is c.requires in
-    let going = sym c.ended.ensures ∙ c.if-ended.false in
+    let may = Gives.may_here c.self.view_is c.requires.work in
+    let going = Gives.going_here c.self.view_is c.requires.going in
     ap (λ (l : List (List Route)). length l) (c.index-routes.ensures ∙ Gives.routes_here c.self.invariant.1 c.self.invariant.2 may going c.index-routes.result.now)
     ∙ Gives.rows_fit c.self.invariant.1 c.self.invariant.2 may going
 
 pub post_changes-requires-clause-lead : goal.post_changes-requires-clause-lead
 post_changes-requires-clause-lead g c =
-    let may = Gives.may_here c.self.view_is c.requires in
-    let going = sym c.ended.ensures ∙ c.if-ended.false in
+    let may = Gives.may_here c.self.view_is c.requires.work in
+    let going = Gives.going_here c.self.view_is c.requires.going in
     let rows = c.index-routes.ensures ∙ Gives.routes_here c.self.invariant.1 c.self.invariant.2 may going c.index-routes.result.now in
     subst (λ (l : List (List Route)). LeadToDesks l c.deref_mut.result.now) (sym rows)
     (subst (LeadToDesks (piece_at (machine (record { job = c.self.inside.job; counters = g.P.Pie.counters_for c.self.inside.job; start = c.self.inside.start; journal = c.self.inside.journal })).pieces c.args.work.worker).routes) (sym c.deref_mut.ensures.value)
@@ -50,38 +50,38 @@ post_changes-requires-clause-lead g c =
 
 pub post_changes-requires-clause-values : goal.post_changes-requires-clause-values
 post_changes-requires-clause-values g c =
-    Gives.changes_are_values c.self.invariant.1 c.self.invariant.2 (Gives.may_here c.self.view_is c.requires) (sym c.ended.ensures ∙ c.if-ended.false)
+    Gives.changes_are_values c.self.invariant.1 c.self.invariant.2 (Gives.may_here c.self.view_is c.requires.work) (Gives.going_here c.self.view_is c.requires.going)
 
 pub post_changes-requires-clause-receive : goal.post_changes-requires-clause-receive
 post_changes-requires-clause-receive g c =
-    let may = Gives.may_here c.self.view_is c.requires in
-    let going = sym c.ended.ensures ∙ c.if-ended.false in
+    let may = Gives.may_here c.self.view_is c.requires.work in
+    let going = Gives.going_here c.self.view_is c.requires.going in
     subst (AllCanReceive c.len-place.result) (sym c.deref_mut.ensures.value)
     (Gives.can_receive c.self.invariant.1 c.self.invariant.2 may going c.len-place.result c.push.new.self.events c.len-place.ensures c.push.ensures.events c.push.ensures.short)
 
 pub post_changes-requires-clause-few : goal.post_changes-requires-clause-few
 post_changes-requires-clause-few g c =
-    let may = Gives.may_here c.self.view_is c.requires in
-    subst (λ (l : List Desk). length l ≤ 64) (sym c.deref_mut.ensures.value) (Gives.few_desks c.self.invariant.1 c.self.invariant.2 may (sym c.ended.ensures ∙ c.if-ended.false))
+    let may = Gives.may_here c.self.view_is c.requires.work in
+    subst (λ (l : List Desk). length l ≤ 64) (sym c.deref_mut.ensures.value) (Gives.few_desks c.self.invariant.1 c.self.invariant.2 may (Gives.going_here c.self.view_is c.requires.going))
 
 pub post_changes-requires-clause-parts : goal.post_changes-requires-clause-parts
 post_changes-requires-clause-parts g c =
-    let may = Gives.may_here c.self.view_is c.requires in
-    subst (λ (l : List Desk). HasMailOf l c.self.inside.cut) (sym c.deref_mut.ensures.value) (Gives.has_mail_of c.self.invariant.1 c.self.invariant.2 may (sym c.ended.ensures ∙ c.if-ended.false))
+    let may = Gives.may_here c.self.view_is c.requires.work in
+    subst (λ (l : List Desk). HasMailOf l c.self.inside.cut) (sym c.deref_mut.ensures.value) (Gives.has_mail_of c.self.invariant.1 c.self.invariant.2 may (Gives.going_here c.self.view_is c.requires.going))
 
 pub carry_token-tagged-requires : goal.carry_token-tagged-requires
-carry_token-tagged-requires g c = Gives.part_within c.self.invariant.1 c.self.invariant.2 (Gives.may_here c.self.view_is c.requires) (sym c.ended.ensures ∙ c.if-ended.false)
+carry_token-tagged-requires g c = Gives.part_within c.self.invariant.1 c.self.invariant.2 (Gives.may_here c.self.view_is c.requires.work) (Gives.going_here c.self.view_is c.requires.going)
 
 pub index_mut-requires : goal.index_mut-requires
 index_mut-requires g c =
-    let r = Gives.desk_within c.self.invariant.1 c.self.invariant.2 (Gives.may_here c.self.view_is c.requires) (sym c.ended.ensures ∙ c.if-ended.false) in
+    let r = Gives.desk_within c.self.invariant.1 c.self.invariant.2 (Gives.may_here c.self.view_is c.requires.work) (Gives.going_here c.self.view_is c.requires.going) in
     let n = c.self.inside.desks.ok.0 in
     omega (arith, r, n)
 
 pub invariant_of-self : goal.invariant_of-self
 invariant_of-self g c =
-    let may = Gives.may_here c.self.view_is c.requires in
-    let going = sym c.ended.ensures ∙ c.if-ended.false in
+    let may = Gives.may_here c.self.view_is c.requires.work in
+    let going = Gives.going_here c.self.view_is c.requires.going in
     let new : HubValues = record { job = c.self.inside.job; counters = g.P.Pie.counters_for c.self.inside.job; start = c.self.inside.start; journal = c.push.new.self } in
     let rows = c.index-routes.ensures ∙ Gives.routes_here c.self.invariant.1 c.self.invariant.2 may going c.index-routes.result.now in
     let sender : Sender = record { place = c.len-place.result; round = c.index.result.now.round + 1; tagged = c.carry_token-tagged.result } in
@@ -100,7 +100,7 @@ invariant_of-self g c =
 
 pub returns-clause-hub : goal.returns-clause-hub
 returns-clause-hub g c =
-    let may = Gives.may_here c.self.view_is c.requires in
-    let going = sym c.ended.ensures ∙ c.if-ended.false in
+    let may = Gives.may_here c.self.view_is c.requires.work in
+    let going = Gives.going_here c.self.view_is c.requires.going in
     let new : HubValues = record { job = c.self.inside.job; counters = g.P.Pie.counters_for c.self.inside.job; start = c.self.inside.start; journal = c.push.new.self } in
     Gives.hub_after c.self.invariant.1 c.self.invariant.2 may going new (refl, refl, c.push.ensures.events, refl) c.push.ensures.spare

@@ -1,8 +1,6 @@
-use Rattle.std.proofs.Common.{reverse, refl, sym, ◌∙◌, ap, subst}
+use Rattle.std.proofs.Common.{refl, subst}
 use Rattle.grape_event.specs.declared.event.Event.TheVariants.{Ack, Nack, Flag, Hold, Mark}
-use Rattle.legal_journal.specs.Past.{has_ended}
 use Rattle.grape_hub.specs.declared.kind.Kind.TheVariants as kind
-use Rattle.grape_hub.specs.HubValues.{HubValues}
 use Rattle.grape_hub.specs.States.{machine, state_of}
 use Rattle.grape_hub.specs.Choices.{IsChoice}
 use Rattle.grape_hub.proofs.Nexts.{is_found, event_admitted, stretch_admitted, take_idle, take_chosen, take_ready, stretch_chosen, did_chosen, none_chosen}
@@ -12,7 +10,7 @@ pub returns-in_default-clause-chosen : goal.returns-in_default-clause-chosen
 returns-in_default-clause-chosen g c = (
   none_chosen c.args.self.now c.args.lane (subst (IsChoice (machine c.args.self.now) (state_of c.args.self.now) c.args.lane) c.in_default.is c.choice.ensures.choice),
   refl,
-  ap (λ (x : HubValues). has_ended (reverse x.journal.events)) (sym c.self.view_is) ∙ (sym c.ended.ensures ∙ c.if-ended.false),
+  c.requires.going,
 )
 
 pub mark-requires : goal.mark-requires

@@ -4,10 +4,10 @@ use Rattle.grape_event.specs.JournalList.{JournalList}
 use Rattle.legal_journal.specs.Past.{has_ended}
 use Rattle.grape_hub.specs.declared.lane_record.LaneRecord.{LaneRecord}
 use Rattle.grape_hub.specs.LanedHub.{LanedHub, is_out_at}
-use Rattle.grape_hub.specs.Calls.{MayGive}
+use Rattle.grape_hub.specs.Calls.{AppendedUnlessEnded, MayGive}
 use Rattle.grape_hub.specs.Notes.{OthersStay}
 use Rattle.grape_hub.proofs.Hubs.{workers_are}
-use Rattle.grape_hub.proofs.LanesKept.{unless_going, give_keeps, end_give_keeps, one_given_up, start_fits, started_again}
+use Rattle.grape_hub.proofs.LanesKept.{appended_going, give_keeps, end_give_keeps, one_given_up, start_fits, started_again}
 use Rattle.grape_hub.proofs.hub.Hub.give.Goals as goal
 
 pub start_values-start-requires : goal.start_values-start-requires
@@ -43,8 +43,10 @@ invariant_of-self g c =
     (keeps.0, one_given_up x c.args.lane c.args.work r c.restarted.result c.self.inside.given_up.items c.self.invariant.0.0 ended may local c.self.invariant.1)
 
 pub give-requires : goal.give-requires
-give-requires g c =
-    subst (λ (v : LanedHub). MayGive v.hub c.args.lane c.args.work) (sym c.self.view_is) c.requires.work
+give-requires g c = record {
+  work = subst (λ (v : LanedHub). MayGive v.hub c.args.lane c.args.work) (sym c.self.view_is) c.requires.work;
+  going = ap (λ (j : JournalList). has_ended (reverse j.events)) (sym c.journal.ensures.journal) ∙ (sym c.ended.ensures ∙ c.if-ended.false);
+}
 
 pub invariant_of-self-else-ended : goal.invariant_of-self-else-ended
 invariant_of-self-else-ended g c =
@@ -53,8 +55,7 @@ invariant_of-self-else-ended g c =
     let y : LanedHub = record { hub = c.give.new.self; lanes = slice_set c.self.inside.lanes.items c.args.lane r } in
     let may = subst (λ (v : LanedHub). MayGive v.hub c.args.lane c.args.work) (sym c.self.view_is) c.requires.work in
     let out = subst (λ (v : LanedHub). is_out_at v c.args.lane ≡ true) (sym c.self.view_is) c.requires.out in
-    let going = ap (λ (j : JournalList). has_ended (reverse j.events)) (sym c.journal.ensures.journal) ∙ (sym c.ended.ensures ∙ c.if-ended.false) in
-    let keeps = give_keeps x y c.args.lane c.args.work r c.self.invariant.0 c.give.ensures.hub out may (unless_going c.self.inside.engine c.give.new.self (Give c.args.work.worker) going c.give.ensures.given) refl refl in
+    let keeps = give_keeps x y c.args.lane c.args.work r c.self.invariant.0 c.give.ensures.hub out may c.give.ensures.given refl refl in
     (keeps.stands, keeps.given c.self.inside.given_up.items c.self.invariant.1)
 
 pub returns-then-ended-clause-others : goal.returns-then-ended-clause-others
@@ -76,6 +77,11 @@ returns-then-ended-clause-hub g c =
     let keeps = end_give_keeps x c.args.lane r c.self.invariant.0 ended out refl in
     keeps.0
 
+pub returns-else-ended-clause-given : goal.returns-else-ended-clause-given
+returns-else-ended-clause-given g c =
+    let going = ap (λ (j : JournalList). has_ended (reverse j.events)) (sym c.journal.ensures.journal) ∙ (sym c.ended.ensures ∙ c.if-ended.false) in
+    subst (λ (v : LanedHub). AppendedUnlessEnded v.hub (Give c.args.work.worker) c.give.new.self) c.self.view_is (appended_going c.self.inside.engine c.give.new.self (Give c.args.work.worker) going c.give.ensures.given)
+
 pub returns-else-ended-clause-others : goal.returns-else-ended-clause-others
 returns-else-ended-clause-others g c =
     let x : LanedHub = record { hub = c.self.inside.engine; lanes = c.self.inside.lanes.items } in
@@ -83,8 +89,7 @@ returns-else-ended-clause-others g c =
     let y : LanedHub = record { hub = c.give.new.self; lanes = slice_set c.self.inside.lanes.items c.args.lane r } in
     let may = subst (λ (v : LanedHub). MayGive v.hub c.args.lane c.args.work) (sym c.self.view_is) c.requires.work in
     let out = subst (λ (v : LanedHub). is_out_at v c.args.lane ≡ true) (sym c.self.view_is) c.requires.out in
-    let going = ap (λ (j : JournalList). has_ended (reverse j.events)) (sym c.journal.ensures.journal) ∙ (sym c.ended.ensures ∙ c.if-ended.false) in
-    let keeps = give_keeps x y c.args.lane c.args.work r c.self.invariant.0 c.give.ensures.hub out may (unless_going c.self.inside.engine c.give.new.self (Give c.args.work.worker) going c.give.ensures.given) refl refl in
+    let keeps = give_keeps x y c.args.lane c.args.work r c.self.invariant.0 c.give.ensures.hub out may c.give.ensures.given refl refl in
     subst (λ (v : LanedHub). OthersStay v c.args.lane y) c.self.view_is keeps.others
 
 pub returns-else-ended-clause-hub : goal.returns-else-ended-clause-hub
@@ -94,6 +99,5 @@ returns-else-ended-clause-hub g c =
     let y : LanedHub = record { hub = c.give.new.self; lanes = slice_set c.self.inside.lanes.items c.args.lane r } in
     let may = subst (λ (v : LanedHub). MayGive v.hub c.args.lane c.args.work) (sym c.self.view_is) c.requires.work in
     let out = subst (λ (v : LanedHub). is_out_at v c.args.lane ≡ true) (sym c.self.view_is) c.requires.out in
-    let going = ap (λ (j : JournalList). has_ended (reverse j.events)) (sym c.journal.ensures.journal) ∙ (sym c.ended.ensures ∙ c.if-ended.false) in
-    let keeps = give_keeps x y c.args.lane c.args.work r c.self.invariant.0 c.give.ensures.hub out may (unless_going c.self.inside.engine c.give.new.self (Give c.args.work.worker) going c.give.ensures.given) refl refl in
+    let keeps = give_keeps x y c.args.lane c.args.work r c.self.invariant.0 c.give.ensures.hub out may c.give.ensures.given refl refl in
     keeps.stands

@@ -33,6 +33,9 @@ keeps g c =
     (subst (λ (v : LanedHub). c.args.lane < v.hub.job.settings.lanes) (sym c.self.view_is) c.requires.lane) (subst (λ (v : LanedHub). is_out_at v c.args.lane ≡ false) (sym c.self.view_is) c.requires.free)
     c.journal-2.ensures.hub (chosen g c) c.answered.ensures (ap (λ (rs : List LaneRecord). slice_set rs c.args.lane c.answered.new.self) lanes)
 
+pub next-answer-requires-clause-going : goal.next-answer-requires-clause-going
+next-answer-requires-clause-going g c = ap (λ (j : JournalList). has_ended (reverse j.events)) (sym c.journal.ensures.journal) ∙ (sym c.ended.ensures ∙ c.if-ended.false)
+
 pub invariant_of-self : goal.invariant_of-self
 invariant_of-self g c =
     let given : c.if-ended.self-inside.given_up.items ≡ c.self.inside.given_up.items = elim c.if-ended.branch [ then-ended w ↦ λ t. (w.self-inside-is t).given_up.items | else-ended w ↦ λ t. (w.self-inside-is t).given_up.items ] in

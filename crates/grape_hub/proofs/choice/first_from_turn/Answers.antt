@@ -3,7 +3,7 @@ use Rattle.std.specs.List.{range_with_len}
 use Rattle.graph_core.specs.Fragments.{numbers_below}
 use Rattle.grape_hub.specs.Kinds.{admits, holds_at, first_where}
 use Rattle.grape_hub.proofs.Searching.{joined_some, joined_none}
-use Rattle.grape_hub.proofs.choice.first_in_turn.Goals as goal
+use Rattle.grape_hub.proofs.choice.first_from_turn.Goals as goal
 
 pub returns-in-Some : goal.returns-in-Some
 returns-in-Some c =
