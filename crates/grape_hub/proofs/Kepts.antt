@@ -15,7 +15,7 @@ use Rattle.grape_hub.specs.HubValues.{HubValues}
 use Rattle.grape_hub.specs.States.{machine, sealed_epoch, IsHub}
 use Rattle.grape_hub.specs.Theorems.{waiting_in, KeptsFollowSeals, CutsMayBeResumed}
 use Rattle.grape_hub.proofs.Cuts.{sealed_may_be_resumed}
-use Rattle.grape_hub.proofs.Snapshots.{SnapshotsAreInTurn, turn_kept, first_in_turn}
+use Rattle.grape_hub.proofs.Snapshots.{SnapshotsAreInTurn, turn_kept, begins_in_turn}
 
 row_of : (sys : System) (s : State) (e : Event) → IsTrue (is_admitted sys s e) → IsTrue (row_admits sys s e)
 row_of sys s e h = (and_parts (not (has_ended s.past)) (row_admits sys s e) h).1
@@ -49,7 +49,7 @@ kepts sys (e ∷ journal) s h p =
     kepts sys journal (state_after sys s e) two.1 (turn_kept sys s e (row_of sys s e two.0) p)
 
 pub kepts_follow_seals : KeptsFollowSeals
-kepts_follow_seals h k = kepts (machine h) h.journal.events (start_state h.start) k.legal (first_in_turn (machine h) h.start)
+kepts_follow_seals h k = kepts (machine h) h.journal.events (start_state h.start) k.legal (begins_in_turn (machine h) h.start)
 
 -- ---- each may be resumed
 
