@@ -18,24 +18,18 @@ fn is_blank(byte: u8) -> bool
 fn leading_blanks(text: &[u8]) -> usize
     ensures { result ≡ prefix_len is_blank text.now }
 {
-    for (place, byte) in text.iter().enumerate() {
-        if !is_blank(*byte) {
-            return place;
-        }
-    }
-    text.len()
+    text.iter()
+        .position(|byte| !is_blank(*byte))
+        .unwrap_or(text.len())
 }
 
 /// How many bytes stand before the first blank of the text.
 fn word_length(text: &[u8]) -> usize
     ensures { result ≡ position_or_len is_blank text.now }
 {
-    for (place, byte) in text.iter().enumerate() {
-        if is_blank(*byte) {
-            return place;
-        }
-    }
-    text.len()
+    text.iter()
+        .position(|byte| is_blank(*byte))
+        .unwrap_or(text.len())
 }
 
 /// The first word of a text, and what stands behind it; or `None` where there are no words.

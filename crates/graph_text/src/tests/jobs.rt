@@ -50,7 +50,7 @@ fn plain() -> Wanted {
 }
 
 /// Each query, with edges, and lines that are not used.
-fn query_jobs() -> [(&'static [u8], Wanted); 5] {
+fn query_jobs() -> [(&'static [u8], Wanted); 6] {
     [
         (
             b"# Directed graph\r\n# FromNodeId\tToNodeId\r\nquery reach 0\r\n0\t11342\r\n0\t824020\r\n11342\t0",
@@ -90,6 +90,15 @@ fn query_jobs() -> [(&'static [u8], Wanted); 5] {
                     (0, 1, 9),
                     (1, 0, 4294967295),
                 ],
+                ..plain()
+            },
+        ),
+        (
+            b"query dist 1\n1 2\r",
+            Wanted {
+                query: Asked::Dist(1),
+                vertices: &[(1, 0), (2, 0)],
+                edges: &[(0, 1, 1)],
                 ..plain()
             },
         ),

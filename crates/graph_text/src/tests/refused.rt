@@ -5,7 +5,7 @@ use crate::Why;
 
 // The tables stand in functions of their own, so that the proofs of the tests don't see their bytes.
 
-fn bad_table() -> [(&'static [u8], u64, Why); 21] {
+fn bad_table() -> [(&'static [u8], u64, Why); 22] {
     [
         (b"hello", 1, Why::Word),
         (b"query foo", 1, Why::Word),
@@ -18,6 +18,7 @@ fn bad_table() -> [(&'static [u8], u64, Why); 21] {
         (b"1 x", 1, Why::Number),
         (b"1 +2", 1, Why::Number),
         (b"12a 3", 1, Why::Number),
+        (b"query dist 1\n1 2\r\r", 2, Why::Number),
         (b"query dist 0\n0 4294967296\n", 2, Why::Range),
         (b"query dist 4294967296\n", 1, Why::Range),
         (b"query dist 1\nquery dist 1", 2, Why::Twice),

@@ -1,13 +1,14 @@
-use Rattle.std.proofs.Common.{◌≡◌, length, arith, sym, ◌∙◌}
-use Rattle.std.proofs.lemmas.List.Sums.{prefix_len_is}
+use Rattle.std.proofs.Common.{rules, ◌∙◌}
+use Rattle.std.specs.Prelude.{not}
+use Rattle.std.proofs.lemmas.Iterator.{YieldsList-from_slice}
+use Rattle.std.proofs.lemmas.Iterator.Search.{position_from_yields_List}
 use Rattle.graph_text.specs.Lines.{is_blank}
+use Rattle.graph_text.proofs.FirstPlaces.{found_or_length, none_before}
 use Rattle.graph_text.proofs.words.leading_blanks.Goals as goal
-
-pub returns-then-not-is_blank : goal.returns-then-not-is_blank
-returns-then-not-is_blank c =
-    sym (prefix_len_is is_blank c.args.text.now c.loop-place.place 0 (omega arith) c.loop-place.invariant (λ _. sym c.is_blank.ensures ∙ c.if-not-is_blank.true))
 
 pub returns : goal.returns
 returns c =
-    let all : c.loop-place.place ≡ length c.args.text.now = omega arith
-    in sym (prefix_len_is is_blank c.args.text.now (length c.args.text.now) 0 (omega arith) (λ k h. c.loop-place.invariant k (omega arith)) (λ h. absurd (omega arith)))
+    c.unwrap_or.ensures
+    ∙ found_or_length c.position.result (λ b. not (is_blank b)) c.args.text.now
+    (position_from_yields_List (λ b. not (is_blank b)) _ _ c.position.result c.position.ensures.ran (YieldsList-from_slice c.args.text.now cc) (λ x b q k. search rules))
+    ∙ none_before is_blank c.args.text.now
