@@ -170,8 +170,8 @@ fn share<R: Threads + Wait + Sync, P: Pie + Send + Sync, Q: Pacer + Send, G: Gat
     Some(hub)
 }
 
-/// Runs all seats of a lock, and gives them back when the journal has ended. The list of the seats has room for all of
-/// them, and the slots for those of the lanes, so no memory is taken.
+/// Runs all seats of a lock, and gives them back when the coordinator and all lanes have left. The list of the seats has
+/// room for all of them, and the slots for those of the lanes.
 fn run_seats<R: Threads + Wait + Sync, P: Pie + Send + Sync, Q: Pacer + Send, G: Gate + Sync>(
     rt: &R,
     alloc: Global,

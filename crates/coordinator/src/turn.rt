@@ -18,8 +18,9 @@ use legal_journal::choices_are_exact;
 use pie_core::{Pie, evaluate};
 use token_cut::Snapshot;
 
-/// One turn of a run on one lane: a duty, or else what the lane has to do. Says whether the run goes on; where it
-/// doesn't, its journal has ended. Nobody is out before and after.
+/// One turn of a run on one lane: exactly a duty, or where there is none exactly the lane's next event, with the Give
+/// after a Take. Says whether the run goes on; where it doesn't, its journal had ended, or a Stop for want of memory was
+/// appended. Nobody is out before and after.
 pub(crate) fn take_turn<P: Pie, Q: Pacer>(
     hub: &mut Hub<P, Q>,
     into: &mut Snapshot,

@@ -42,7 +42,7 @@ impl Pulse {
     }
 
     /// Mail arrives when the clock shows this, which isn't below what it showed at the arrival before. Of nine arrivals
-    /// the oldest is forgotten. Takes no memory.
+    /// the oldest is forgotten.
     pub fn arrived(&mut self, clock: u64)
         requires { IsNotBelowLast clock self.old }
         ensures { self.new ≡ window (clock ∷ self.old) }

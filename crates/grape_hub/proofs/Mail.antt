@@ -5,14 +5,9 @@ use Rattle.std.proofs.lemmas.Bool.{le-leb, le-ltb}
 use Rattle.std.proofs.lemmas.List.Sums.{sum_by-cons}
 use Rattle.value_order.specs.declared.order.Order.{Order}
 use Rattle.value_order.specs.declared.TheConstants.{NOTHING}
-use Rattle.value_order.specs.Order.{Below, meet_all}
-use Rattle.value_order.proofs.Orders.{Below-refl}
 use Rattle.graph_core.specs.Fragments.{Piece, numbers_below}
 use Rattle.grape_event.specs.declared.event.Event.{Event}
-use Rattle.message_buffer.specs.Buffers.{meets_of}
-use Rattle.base_machine.specs.Machine.{System, Worker, Batch, Post, posts_in, met_posts, values_for, pending_posts, taken_batches, left_batches, after_taking, batches_waiting}
-use Rattle.base_machine.proofs.Meets.{meet_all-lower}
-use Rattle.base_machine.proofs.Giving.{neutral}
+use Rattle.base_machine.specs.Machine.{System, Worker, Batch, posts_in, met_posts, pending_posts, taken_batches, left_batches, after_taking, batches_waiting}
 use Rattle.legal_journal.specs.Past.{gives_of_each}
 use Rattle.legal_journal.proofs.Journals.{IsCounted, counts-length, counts-at}
 use Rattle.legal_journal.proofs.Recording.{posts_append}
@@ -40,13 +35,6 @@ taken_all (u ∷ upto) [] e h = absurd (omega (arith, e))
 taken_all (u ∷ upto) (m ∷ mail) e h =
     ap (λ l. posts_in (l ++ taken_batches upto mail)) (keeps_all u m (h 0 (omega arith)))
     ∙ (posts_append m (taken_batches upto mail) ∙ ap (λ l. posts_in m ++ l) (taken_all upto mail (omega (arith, e)) (λ k q. h (suc k) (omega (arith, q)))))
-
-left_no_posts : (upto : List ℕ) (mail : List (List Batch)) → length mail ≡ length upto → AreUpTo upto mail → flat_map posts_in (left_batches upto mail) ≡ []
-left_no_posts [] [] e h = refl
-left_no_posts [] (m ∷ mail) e h = absurd (omega (arith, e))
-left_no_posts (u ∷ upto) [] e h = absurd (omega (arith, e))
-left_no_posts (u ∷ upto) (m ∷ mail) e h =
-    ap (λ l. posts_in l ++ flat_map posts_in (left_batches upto mail)) (keeps_none u m (h 0 (omega arith))) ∙ left_no_posts upto mail (omega (arith, e)) (λ k q. h (suc k) (omega (arith, q)))
 
 left_none : (upto : List ℕ) (mail : List (List Batch)) → length mail ≡ length upto → AreUpTo upto mail → sum_by length (left_batches upto mail) ≡ 0
 left_none [] [] e h = refl
@@ -77,10 +65,6 @@ module _ (sys : System) (piece : Piece) (n : ℕ) (past : List Event) (w : Worke
   pub hand_is_pending : w.start_posts ++ posts_in (taken_batches (gives_of_each (numbers_below n) past) w.mail) ≡ pending_posts w
   hand_is_pending = ap (λ l. w.start_posts ++ l) (taken_all (gives_of_each (numbers_below n) past) w.mail same_length up_to)
 
-  -- nothing is pending afterwards
-  pub none_pending : pending_posts (after_taking sys piece (gives_of_each (numbers_below n) past) w) ≡ []
-  none_pending = left_no_posts (gives_of_each (numbers_below n) past) w.mail same_length up_to
-
   pub none_waiting : batches_waiting (after_taking sys piece (gives_of_each (numbers_below n) past) w) ≡ 0
   none_waiting = let z = left_none (gives_of_each (numbers_below n) past) w.mail same_length up_to in omega (arith, z)
 
@@ -93,17 +77,3 @@ replicated x a (suc n) = ap (λ l. x ∷ l) (replicated x (a + 1) n)
 -- no posts are met in NOTHING
 pub no_posts_met : (o : Order) (n : ℕ) → met_posts o n [] ≡ replicate n NOTHING
 no_posts_met o n = replicated NOTHING 0 n
-
-pub met_below : (o : Order) (xs : List ℕ) → Below o (meet_all o NOTHING xs) NOTHING
-met_below o xs = (meet_all-lower o (meet_all o NOTHING xs) NOTHING xs (Below-refl o (meet_all o NOTHING xs))).0
-
-met_with_nothing : (o : Order) (f : ℕ → ℕ) (a n : ℕ) → ((m : ℕ) → Below o (f m) NOTHING) → meets_of o (map f (range_with_len a n)) (replicate n NOTHING) ≡ map f (range_with_len a n)
-met_with_nothing o f a zero h = refl
-met_with_nothing o f a (suc n) h =
-    let p = neutral o (f a) (h a) in
-    let q = met_with_nothing o f (a + 1) n h in
-    λ i. p i ∷ q i
-
--- what waits in both classes is what waits in the first, where the second has none
-pub met_alone : (o : Order) (n : ℕ) (posts : List Post) → meets_of o (met_posts o n posts) (replicate n NOTHING) ≡ met_posts o n posts
-met_alone o n posts = met_with_nothing o (λ m. meet_all o NOTHING (values_for m posts)) 0 n (λ m. met_below o (values_for m posts))

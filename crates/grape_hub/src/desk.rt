@@ -104,7 +104,7 @@ impl Desk {
         self.pulse.stretch(policy, self.buffer.batches())
     }
 
-    /// Begins a batch. A worker that rests without mail catches up with the round of the sender. Takes no memory.
+    /// Begins a batch. A worker that rests without mail catches up with the round of the sender.
     pub fn receive(&mut self, sender: Sender)
         requires { CanReceive sender.place self.old }
         ensures { self.new ≡ with_arrival sender self.old }

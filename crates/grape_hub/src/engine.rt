@@ -175,7 +175,8 @@ impl<P: Pie, Q: Pacer> Engine<P, Q> {
         }
     }
 
-    /// Appends the Kept of the epoch that is sealed and not kept yet, where the journal hasn't ended. Takes no memory.
+    /// Appends the Kept of the epoch that is sealed and not kept yet, where the journal hasn't ended: it has
+    /// room since the Seal.
     pub fn kept(&mut self, epoch: u64)
         requires { MayKeep self.old epoch }
         ensures kept { AppendedUnlessEnded self.old (Kept epoch) self.new }
@@ -188,7 +189,7 @@ impl<P: Pie, Q: Pacer> Engine<P, Q> {
         self.counts.sealed = None;
     }
 
-    /// Appends a Stop, where the journal hasn't ended. Takes no memory.
+    /// Appends a Stop, where the journal hasn't ended: there is always room for one.
     pub fn stop(&mut self, cause: StopCause)
         ensures stopped { AppendedUnlessEnded self.old (Stop cause) self.new }
         ensures hub { IsHub self.new }
@@ -394,7 +395,7 @@ impl<P: Pie, Q: Pacer> Engine<P, Q> {
     /// Appends the Give of the Work that the lane has out, and sends each owned value that became lower along its
     /// routes. The values are the local solution of those at the Take lowered by the hand. While a recording is open
     /// the batches of a marked worker carry its token, and those of another lower what is recorded of marked workers.
-    /// The journal hasn't ended. Takes no memory.
+    /// The journal hasn't ended, and has room for the Give since the Take.
     pub fn give(&mut self, lane: u32, work: Work)
         requires work { MayGive self.old lane work }
         requires going { has_ended (reverse self.old.journal.events) ≡ false }

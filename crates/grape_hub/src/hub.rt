@@ -142,7 +142,8 @@ impl<P: Pie, Q: Pacer> Hub<P, Q> {
         self.engine.duty(into)
     }
 
-    /// Appends the Kept of the epoch that is sealed and not kept yet, where the journal hasn't ended. Takes no memory.
+    /// Appends the Kept of the epoch that is sealed and not kept yet, where the journal hasn't ended: it has
+    /// room since the Seal.
     pub fn kept(&mut self, epoch: u64)
         requires { MayKeep self.old.hub epoch }
         ensures kept { AppendedUnlessEnded self.old.hub (Kept epoch) self.new.hub }
@@ -153,8 +154,8 @@ impl<P: Pie, Q: Pacer> Hub<P, Q> {
         self.engine.kept(epoch);
     }
 
-    /// Appends a Stop, where the journal hasn't ended. Takes no memory. Only that of the cause `Disk` is in a note,
-    /// that of the coordinator.
+    /// Appends a Stop, where the journal hasn't ended: there is always room for one. Only that of the cause `Disk` is
+    /// in a note, that of the coordinator.
     pub fn stop(&mut self, cause: StopCause)
         ensures stopped { AppendedUnlessEnded self.old.hub (Stop cause) self.new.hub }
         ensures lanes { self.new.lanes ≡ self.old.lanes }
@@ -169,7 +170,7 @@ impl<P: Pie, Q: Pacer> Hub<P, Q> {
     /// routes. The values are the local solution of those at the Take lowered by the hand. While a recording is open
     /// the batches of a marked worker carry its token, and those of another lower what is recorded of marked workers.
     /// Where the journal has ended nothing is appended, and the values are given up. The lane has no Work out then.
-    /// Takes no memory.
+    /// The Give has room since the Take.
     pub fn give(&mut self, lane: u32, work: Work)
         requires out { is_out_at self.old lane ≡ true }
         requires work { MayGive self.old.hub lane work }

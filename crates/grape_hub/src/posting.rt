@@ -20,7 +20,7 @@ pub fn carry_token(cut: &CutState, worker: u32) -> bool
 
 /// Sends each owned value that changed along its routes: to each worker that gets some, in one batch. A batch without a
 /// token to a worker that is marked in an open recording is late, and its values also lower what is recorded of that
-/// worker's mail. Takes no memory.
+/// worker's mail.
 pub fn post_changes(
     sender: Sender,
     routes: &Rows<Route>,
