@@ -1,9 +1,10 @@
-ghost use Rattle.std.specs.Prelude.{◌≡◌, ◌≢◌, ◌<◌, ◌≤◌, ◌++◌, length, IfOk};
+ghost use Rattle.std.specs.Prelude.{◌≡◌, ◌≢◌, ℕ, ◌%◌, ◌<◌, ◌≤◌, ◌==◌, if◌then◌else◌, ◌++◌, length, slice_index, IfOk};
 ghost use Rattle.value_order.specs.declared.TheConstants.{NOTHING};
 ghost use Rattle.graph_core.specs.Graphs.{IsJob};
 ghost use Rattle.graph_core.specs.Queries.{equations_of};
 ghost use Rattle.graph_core.specs.Fragments.{owned_of, mirrors_of, fragment_of};
 ghost use Rattle.pie_core.specs.Solutions.{IsReadyFor, OwnEquationsHold, starts_of};
+ghost use Rattle.program_trials.specs.Trials.{IsSolvedFromStarts};
 
 use fragment_cut::fragment;
 use grape_port::NoMemory;
@@ -39,6 +40,7 @@ pub fn evaluated<P: Pie>(
     requires part { part.now ≡ fragment_of job.now part.now.number }
     ensures ready { IfOk result (λ local. IsReadyFor (P.equations program.now job.now) job.now part.now local (P.counters_for job.now)) }
     ensures solved { IfOk result (λ local. OwnEquationsHold (P.equations program.now job.now) part.now.owned part.now.mirrors local.values) }
+    ensures solution { IfOk result (λ local. IsSolvedFromStarts (P.equations program.now job.now) part.now local.values) }
 {
     let starts = starts(alloc, job, part)?;
     let mut local = Local::new(alloc, part, program.counters())?;
@@ -54,6 +56,7 @@ pub fn evaluated_whole<P: Pie>(alloc: Global, program: &P, job: &Job) -> Result<
     requires one { job.now.settings.fragments ≡ 1 }
     ensures ready { IfOk result (λ local. IsReadyFor (P.equations program.now job.now) job.now (fragment_of job.now 0) local (P.counters_for job.now)) }
     ensures solved { IfOk result (λ local. OwnEquationsHold (P.equations program.now job.now) (owned_of job.now 0) (mirrors_of job.now 0) local.values) }
+    ensures solution { IfOk result (λ local. IsSolvedFromStarts (P.equations program.now job.now) (fragment_of job.now 0) local.values) }
 {
     let parts = fragment(alloc, job)?;
     evaluated(alloc, program, job, &parts[0])
@@ -70,7 +73,8 @@ pub fn hand_of(
 ) -> Result<Hand, NoMemory>
     requires every { 1 ≤ every }
     requires value { value ≢ NOTHING }
-    ensures { IfOk result (λ hand. length hand.values ≡ mirrors) }
+    ensures mirrors { IfOk result (λ hand. length hand.values ≡ mirrors) }
+    ensures values { IfOk result (λ hand. (m : ℕ) → m < mirrors → slice_index hand.values m ≡ (if m % every == 0 then value else NOTHING)) }
 {
     let mut hand = Hand::new(alloc, order, mirrors)?;
     'mirrors: for mirror in 0..mirrors {

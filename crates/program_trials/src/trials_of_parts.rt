@@ -1,7 +1,9 @@
-ghost use Rattle.std.specs.Prelude.{◌≡◌, ◌≢◌, ◌<◌, ◌+◌, ◌*◌, length, IfOk};
+ghost use Rattle.std.specs.Prelude.{◌≡◌, ◌≢◌, ◌<◌, ◌+◌, ◌*◌, ◌++◌, ◌∷◌, [], length, IfOk};
 ghost use Rattle.value_order.specs.declared.TheConstants.{NOTHING};
 ghost use Rattle.graph_core.specs.Graphs.{IsJob};
 ghost use Rattle.graph_core.specs.Fragments.{fragment_of};
+ghost use Rattle.program_trials.specs.Trials.{AreTrialsOf, HasTrialsOf};
+ghost use Rattle.program_trials.specs.declared.trials_of_parts.Trial.{Trial as TrialLists};
 
 use crate::evaluation::{evaluated, hand_of, starts};
 use crate::plain::Plain;
@@ -33,7 +35,8 @@ fn try_part<P: Pie, Q: Plain>(
     requires number { part.now.number < job.now.settings.fragments }
     requires part { part.now ≡ fragment_of job.now part.now.number }
     requires value { value ≢ NOTHING }
-    ensures { IfOk result (λ ok. length trials.new.items ≡ length trials.old.items + 2) }
+    ensures count { IfOk result (λ ok. length trials.new.items ≡ length trials.old.items + 2) }
+    ensures trials { IfOk result (λ ok. (first : TrialLists) × (second : TrialLists) × (trials.new.items ≡ (trials.old.items ++ first ∷ []) ++ second ∷ []) × AreTrialsOf (P.equations program.now job.now) part.now first second) }
 {
     let mut local = evaluated(alloc, program, job, part)?;
     let mut values = starts(alloc, job, part)?;
@@ -75,7 +78,8 @@ pub fn trials<P: Pie, Q: Plain>(
     requires job { IsJob job.now }
     requires is_for { P.is_for program.now job.now }
     requires value { value ≢ NOTHING }
-    ensures { IfOk result (λ trials. length trials.items ≡ 2 * job.now.settings.fragments) }
+    ensures count { IfOk result (λ trials. length trials.items ≡ 2 * job.now.settings.fragments) }
+    ensures trials { IfOk result (λ trials. HasTrialsOf (P.equations program.now job.now) (fragment_of job.now) job.now.settings.fragments trials.items) }
 {
     let parts = fragment(alloc, job)?;
     let mut trials = Vec::new(alloc);

@@ -1,5 +1,5 @@
-use Rattle.std.proofs.Common.{◌≡◌, length}
+use Rattle.program_trials.proofs.HandValues.{IsFilledTo}
 use Rattle.program_trials.proofs.evaluation.hand_of.Given as goal
 
 abbrev pub invariant-mirrors : goal.invariant-mirrors
-invariant-mirrors l = length l.hand.values ≡ l.mirrors
+invariant-mirrors l = IsFilledTo l.every l.value l.mirrors l.mirror l.hand.values

@@ -1,0 +1,2 @@
+pub mod HandValues
+pub mod TwoEach
