@@ -3,7 +3,7 @@ use Rattle.std.proofs.Common.{◌≡◌, ℕ, refl, ap, List, [], ◌∷◌, map
 use Rattle.graph_core.specs.declared.job.Job.{Job}
 use Rattle.graph_core.specs.Queries.{equations_of}
 use Rattle.graph_core.specs.Fragments.{numbers_below, piece_of, fragment_of}
-use Rattle.token_cut.specs.Shapes.{PartStarts, Starts}
+use Rattle.token_cut.specs.Shapes.{PartStarts}
 use Rattle.base_machine.specs.Machine.{system_of}
 use Rattle.base_machine.specs.Shapes.{piece_starts, system_shape}
 use Rattle.coordinator.specs.Shapes.{starts_in, shape_of}

@@ -1,7 +1,6 @@
 ghost use Rattle.std.specs.Prelude.{◌≡◌, ◌+◌, ◌*◌, ◌^◌, ◌++◌, [], ◌∷◌, true, false, Some, None, length, take};
-ghost use Rattle.graph_core.specs.declared.settings.Policy.TheVariants.{Bsp, Ap, Ssp, Aap};
-ghost use Rattle.grape_event.specs.declared.event.Event.TheVariants.{Take, Give, Flag, Ask, Hold, Ack, Nack, Begin, Mark, Seal, Kept, End, Stop, Stretch};
-ghost use Rattle.grape_event.specs.declared.event.StopCause.TheVariants.{Memory};
+ghost use Rattle.graph_core.specs.declared.settings.Policy.TheVariants.{Bsp, Aap};
+ghost use Rattle.grape_event.specs.declared.event.Event.TheVariants.{Take, Give, Flag, Ask, Hold, Ack, Nack, End, Stretch};
 ghost use Rattle.base_machine.specs.Machine.{system_of, worker_at, BaseTake, BaseGive, snapshot_of, base_state_of, base_after_all};
 ghost use Rattle.base_machine.specs.Theorems.{IsSound};
 ghost use Rattle.base_machine.specs.Bounds.{bound_of};
@@ -10,7 +9,7 @@ ghost use Rattle.legal_journal.specs.Choices.{next_choice, duty_choice};
 ghost use Rattle.legal_journal.specs.Cuts.{sealed_snapshot, cut_of, after_cut};
 ghost use Rattle.legal_journal.specs.Delays.{stretch_turns};
 ghost use Rattle.journal_examples.specs.FromFresh.{beginning, admits, IsLegalRun, state_after_run};
-ghost use Rattle.journal_examples.specs.Examples.{two_ranges, asked_twice, before_first_answer, served_after_ask, three_parts, late_and_tagged, late_and_tagged_snapshot, tagged_waits, parts_under, gone_ahead, turn_by_turn, backwards, stretched, alone, kept_and_ended, three_and_two, no_fragments, asked_nobody};
+ghost use Rattle.journal_examples.specs.Examples.{two_ranges, asked_twice, before_first_answer, served_after_ask, three_parts, late_and_tagged, late_and_tagged_snapshot, turn_by_turn, backwards, stretched, alone, kept_and_ended, three_and_two, no_fragments, asked_nobody};
 
 /// A run whose second worker finds its mail only after a first probe was asked.
 pub fn asked_twice_is_legal()
