@@ -1,22 +1,28 @@
 -- Why a run was stopped, and what the coordinator's note says of it.
-use Rattle.std.proofs.Common.{◌≡◌, ℕ, ◌<◌, Bool, true, false, not, ◌&&◌, ◌==◌, nat_lt, if◌then◌else◌, refl, sym, ◌∙◌, ap, arith, List, [], ◌∷◌, ◌++◌, length, reverse}
-use Rattle.std.proofs.lemmas.Bool.{false≢true, eq-eqb, eqb-true, ltb-true, false_from_ne_true}
+use Rattle.std.proofs.Common.{◌≡◌, ℕ, ◌<◌, Bool, true, false, not, ◌&&◌, ◌==◌, nat_lt, if◌then◌else◌, refl, sym, ◌∙◌, ap, arith, List, [], ◌∷◌, ◌++◌, Option, length, reverse}
+use Rattle.std.proofs.lemmas.Bool.{false≢true, eqb-true, false_from_ne_true}
 use Rattle.std.proofs.lemmas.List.{reverse-append}
 use Rattle.graph_core.specs.declared.job.Job.{Job}
 use Rattle.grape_event.specs.declared.event.Event.{Event}
 use Rattle.grape_event.specs.declared.event.Event.TheVariants.{Seal, Stop}
 use Rattle.grape_event.specs.declared.event.StopCause.{StopCause}
 use Rattle.grape_event.specs.declared.event.StopCause.TheVariants.{Disk, Memory}
-use Rattle.legal_journal.specs.Choices.{is_of_lane, is_duty, sealed_epochs}
+use Rattle.token_cut.specs.Parts.{SnapshotParts}
+use Rattle.base_machine.specs.Machine.{system_of}
+use Rattle.legal_journal.specs.Choices.{is_of_lane, is_duty}
+use Rattle.legal_journal.specs.Legal.{start_state}
+use Rattle.legal_journal.specs.Cuts.{sealed_snapshots}
 use Rattle.legal_journal.proofs.Choosing.{lane_choices_are_exact}
 use Rattle.grape_hub.specs.HubValues.{HubValues}
-use Rattle.grape_hub.specs.States.{machine, state_of}
+use Rattle.grape_hub.specs.States.{machine, state_of, sealed_epoch}
 use Rattle.grape_hub.specs.declared.work.Next.TheVariants.{Did}
 use Rattle.grape_hub.specs.Calls.{Appended, Unchanged, Chooses, is_seal}
 use Rattle.grape_hub.specs.LanedHub.{LanedHub}
-use Rattle.grape_hub.specs.Notes.{is_stopped_by_disk, lane_part, coordinator_part, own_in, note_of}
+use Rattle.grape_hub.specs.Notes.{is_stopped_by_disk, numbers_of_cuts, lane_part, coordinator_part, own_in, note_of}
 use Rattle.grape_hub.proofs.Hubs.{past_of}
 use Rattle.grape_hub.proofs.NoteLaws.{own_is}
+use Rattle.grape_hub.proofs.NotesStay.{sealed_more}
+use Rattle.grape_hub.proofs.CutNotes.{not_below, coordinator_own}
 use Rattle.coordinator.specs.Runs.{EndsBy}
 use Rattle.coordinator.specs.Turns.{HasNoDiskStop}
 
@@ -63,9 +69,6 @@ memory_is_cause cause journal ends disk = other cause (sym (stopped_last ends.0 
 
 -- ---- the coordinator's note
 
-not_below : (k n : ℕ) → (k < n → ⊥) → nat_lt k n ≡ false
-not_below k n other = false_from_ne_true (nat_lt k n) (λ t. other (ltb-true k n t))
-
 -- behind the ground of a number past the coordinator's nothing stands
 pub past_is_empty : (x : LanedHub) (k : ℕ) → x.hub.job.settings.lanes < k → own_in (note_of x k) ≡ []
 past_is_empty x k l =
@@ -77,59 +80,37 @@ past_is_empty x k l =
     neither false true xs ys e f = absurd (false≢true (sym f))
     neither false false xs ys e f = refl
 
-coordinator_own : (x : LanedHub) → own_in (note_of x x.hub.job.settings.lanes) ≡ coordinator_part x.hub
-coordinator_own x =
-    let n = x.hub.job.settings.lanes in
-    own_is x n ∙ second (nat_lt n n) (n == n) (lane_part x n) (coordinator_part x.hub) (not_below n n (λ l. omega (arith, l))) (eq-eqb n n refl)
-  where
-    second : (c d : Bool) (xs ys : List ℕ) → c ≡ false → d ≡ true → (if c then xs else if d then ys else []) ≡ ys
-    second true d xs ys e f = absurd (false≢true (sym e))
-    second false true xs ys e f = refl
-    second false false xs ys e f = absurd (false≢true f)
-
 -- nothing was sealed, and the disk didn't stop the run
 abbrev IsStill : HubValues → Type 0
-IsStill h = (sealed_epochs h.journal.events ≡ []) × HasNoDiskStop h
+IsStill h = (sealed_snapshots (machine h) h.start h.journal.events ≡ []) × HasNoDiskStop h
 
-still_parts : (none stopped : Bool) (n : ℕ) (ns : List ℕ) → (if none && not stopped then [] else n ∷ ns) ≡ [] → (none ≡ true) × (stopped ≡ false)
-still_parts true false n ns h = (refl, refl)
-still_parts true true n ns h = let l = ap {B = ℕ} (λ (xs : List ℕ). length xs) h in absurd (omega (arith, l))
-still_parts false stopped n ns h = let l = ap {B = ℕ} (λ (xs : List ℕ). length xs) h in absurd (omega (arith, l))
-
-still_part : (none stopped : Bool) (ns : List ℕ) → none ≡ true → stopped ≡ false → (if none && not stopped then [] else ns) ≡ []
-still_part true false ns e f = refl
-still_part true true ns e f = absurd (false≢true (sym f))
-still_part false stopped ns e f = absurd (false≢true e)
-
-no_epochs : (epochs : List ℕ) → (length epochs == 0) ≡ true → epochs ≡ []
-no_epochs [] h = refl
-no_epochs (e ∷ epochs) h = let z = eqb-true (length (e ∷ epochs)) 0 h in absurd (omega (arith, z))
+no_cuts : (unkept : Option ℕ) (stopped : Bool) (cuts : List SnapshotParts) → numbers_of_cuts unkept stopped cuts ≡ [] → (cuts ≡ []) × (stopped ≡ false)
+no_cuts unkept false [] h = (refl, refl)
+no_cuts unkept true [] h = absurd (cc)
+no_cuts unkept stopped (s ∷ cuts) h = absurd (cc)
 
 still_from : (h : HubValues) → coordinator_part h ≡ [] → IsStill h
 still_from h part =
-    let epochs = sealed_epochs h.journal.events in
-    let s = still_parts (length epochs == 0) (is_stopped_by_disk (state_of h).past) _ _ part in
-    (no_epochs epochs s.0, sym (ap (λ (es : List Event). is_stopped_by_disk es) (past_of h)) ∙ s.1)
+    let none = no_cuts (sealed_epoch (state_of h).past) (is_stopped_by_disk (state_of h).past) (sealed_snapshots (machine h) h.start h.journal.events) part in
+    (none.0, sym (ap (λ (es : List Event). is_stopped_by_disk es) (past_of h)) ∙ none.1)
 
 part_from : (h : HubValues) → IsStill h → coordinator_part h ≡ []
 part_from h still =
-    still_part (length (sealed_epochs h.journal.events) == 0) (is_stopped_by_disk (state_of h).past) _ (ap (λ (epochs : List ℕ). length epochs == 0) still.0)
-    (ap (λ (es : List Event). is_stopped_by_disk es) (past_of h) ∙ still.1)
-
-epochs_more : (e : Event) → is_seal e ≡ false → (journal : List Event) → sealed_epochs (journal ++ e ∷ []) ≡ sealed_epochs journal
-epochs_more e p [] = none e p
-  where
-    none : (e : Event) → is_seal e ≡ false → sealed_epochs (e ∷ []) ≡ []
-    none (Seal d) p = absurd (false≢true (sym p))
-    none _ p = refl
-epochs_more e p (Seal d ∷ journal) = ap (λ (q : List ℕ). d ∷ q) (epochs_more e p journal)
-epochs_more e p (_ ∷ journal) = epochs_more e p journal
+    let unkept = sealed_epoch (state_of h).past in
+    ap (λ (cuts : List SnapshotParts). numbers_of_cuts unkept (is_stopped_by_disk (state_of h).past) cuts) still.0
+    ∙ ap (λ (stopped : Bool). numbers_of_cuts unkept stopped []) (ap (λ (es : List Event). is_stopped_by_disk es) (past_of h) ∙ still.1)
 
 still_after : (old new : HubValues) (e : Event) → Appended old e new → is_seal e ≡ false → is_disk e ≡ false → IsStill old → IsStill new
-still_after old new e more seal other still = (ap (λ (es : List Event). sealed_epochs es) more.2 ∙ (epochs_more e seal old.journal.events ∙ still.0), disk_after old new e more other)
+still_after old new e more seal other still = (
+  (λ t. sealed_snapshots (system_of (more.0 t)) (more.3 t) (more.2 t)) ∙ (sealed_more (machine old) e seal old.journal.events (start_state old.start) ∙ still.0),
+  disk_after old new e more other,
+)
 
 still_unchanged : (old new : HubValues) → Unchanged old new → IsStill old → IsStill new
-still_unchanged old new same still = (ap (λ (es : List Event). sealed_epochs es) same.2 ∙ still.0, ap (λ (es : List Event). is_stopped_by_disk (reverse es)) same.2 ∙ still.1)
+still_unchanged old new same still = (
+  (λ t. sealed_snapshots (system_of (same.0 t)) (same.3 t) (same.2 t)) ∙ still.0,
+  ap (λ (es : List Event). is_stopped_by_disk (reverse es)) same.2 ∙ still.1,
+)
 
 -- ---- what a duty leaves of it
 

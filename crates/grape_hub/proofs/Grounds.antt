@@ -194,7 +194,7 @@ part_told = record { tell = tell }
         let rest = both_told listed listed listed_told listed_told x.values y.values x.mail y.mail s t (tail_same _ _ _ _ h) in
         (λ i. record { phase = phases i; values = rest.0 i; mail = rest.1 i }, rest.2)
 
-snapshot_told : IsPrefixFree numbers_of_snapshot
+pub snapshot_told : IsPrefixFree numbers_of_snapshot
 snapshot_told = record { tell = tell }
   where
     tell : (x y : SnapshotParts) (s t : List ℕ) → numbers_of_snapshot x ++ s ≡ numbers_of_snapshot y ++ t → (x ≡ y) × (s ≡ t)

@@ -45,3 +45,4 @@ pub mod Grounds
 pub mod NoteLaws
 pub mod LanesKept
 pub mod Kepts
+pub mod CutNotes

@@ -12,15 +12,14 @@ use Rattle.token_cut.specs.Parts.{SnapshotParts}
 use Rattle.base_machine.specs.Machine.{System, worker_at, is_running}
 use Rattle.legal_journal.specs.Past.{lane_of, has_ended}
 use Rattle.legal_journal.specs.Legal.{State, start_state, state_after, row_admits, is_admitted, worker_count, is_lane, is_out_with}
-use Rattle.legal_journal.specs.Cuts.{sealed_from}
+use Rattle.legal_journal.specs.Cuts.{snapshots_from}
 use Rattle.legal_journal.proofs.Probes.{both, same_count}
 use Rattle.grape_hub.specs.HubValues.{HubValues}
 use Rattle.grape_hub.specs.States.{machine, state_of, sealed_epoch, IsHub}
-use Rattle.grape_hub.specs.Calls.{Appended, Unchanged, Begins}
+use Rattle.grape_hub.specs.Calls.{Appended, Unchanged, Begins, is_seal}
 use Rattle.grape_hub.specs.declared.lane_record.LaneRecord.{LaneRecord}
 use Rattle.grape_hub.specs.LanedHub.{LanedHub, lane_at, no_record, new_lanes}
-use Rattle.legal_journal.specs.Choices.{sealed_epochs}
-use Rattle.grape_hub.specs.Notes.{ground_of, or_zero, listed, numbers_of_record, numbers_of_work, numbers_out, lane_part, is_stopped_by_disk, numbers_if_sealed, coordinator_part, note_of, OthersStay}
+use Rattle.grape_hub.specs.Notes.{ground_of, or_zero, listed, numbers_of_record, numbers_of_work, numbers_out, lane_part, is_stopped_by_disk, numbers_of_cuts, coordinator_part, note_of, OthersStay}
 use Rattle.grape_hub.proofs.Hubs.{state_grown, ended_is}
 use Rattle.grape_hub.proofs.Ready.{with_event}
 use Rattle.grape_hub.proofs.Staying.{touches, Stays, stays, hand_same, not_taken, other_out, giver_out, taker_out, by_lane, same_lane, from_not}
@@ -69,24 +68,19 @@ duty_is_still i _ h = refl
 
 -- ---- the coordinator's part
 
-sealed_more : (sys : System) (epoch : ℕ) (e : Event) → IsPlain e → (journal : List Event) (s : State) → sealed_from sys s epoch (journal ++ e ∷ []) ≡ sealed_from sys s epoch journal
-sealed_more sys epoch e p [] s = none e p
+-- an event that is no Seal seals nothing
+pub sealed_more : (sys : System) (e : Event) → is_seal e ≡ false → (journal : List Event) (s : State) → snapshots_from sys s (journal ++ e ∷ []) ≡ snapshots_from sys s journal
+sealed_more sys e p [] s = none e p
   where
-    none : (e : Event) → IsPlain e → sealed_from sys s epoch (e ∷ []) ≡ None
-    none (Seal d) p = absurd p
+    none : (e : Event) → is_seal e ≡ false → snapshots_from sys s (e ∷ []) ≡ []
+    none (Seal d) p = absurd (false≢true (sym p))
     none _ p = refl
-sealed_more sys epoch e p (Seal d ∷ journal) s =
-    ap (λ (q : Option SnapshotParts). if d == epoch then Some (record { epoch = epoch; parts = s.recorded }) else q) (sealed_more sys epoch e p journal (state_after sys s (Seal d)))
-sealed_more sys epoch e p (x ∷ journal) s = sealed_more sys epoch e p journal (state_after sys s x)
+sealed_more sys e p (Seal d ∷ journal) s = ap (λ (cuts : List SnapshotParts). record { epoch = d; parts = s.recorded } ∷ cuts) (sealed_more sys e p journal (state_after sys s (Seal d)))
+sealed_more sys e p (x ∷ journal) s = sealed_more sys e p journal (state_after sys s x)
 
-epochs_more : (e : Event) → IsPlain e → (journal : List Event) → sealed_epochs (journal ++ e ∷ []) ≡ sealed_epochs journal
-epochs_more e p [] = none e p
-  where
-    none : (e : Event) → IsPlain e → sealed_epochs (e ∷ []) ≡ []
-    none (Seal d) p = absurd p
-    none _ p = refl
-epochs_more e p (Seal d ∷ journal) = ap (λ (q : List ℕ). d ∷ q) (epochs_more e p journal)
-epochs_more e p (_ ∷ journal) = epochs_more e p journal
+plain_seals_none : (e : Event) → IsPlain e → is_seal e ≡ false
+plain_seals_none (Seal d) p = absurd p
+plain_seals_none _ p = refl
 
 sealed_same : (e : Event) → IsPlain e → (past : List Event) → sealed_epoch (e ∷ past) ≡ sealed_epoch past
 sealed_same (Seal d) p past = absurd p
@@ -103,18 +97,13 @@ going_no_disk [] h = refl
 going_no_disk (Stop cause ∷ past) h = absurd (false≢true (sym h))
 going_no_disk (_ ∷ past) h = refl
 
--- the coordinator's part by what it is made of
-abbrev coordinator_from : List ℕ → Option ℕ → Bool → (ℕ → Option SnapshotParts) → List ℕ
-coordinator_from epochs unkept stopped snapshot =
-    if length epochs == 0 && not stopped then [] else or_zero unkept ∷ (if stopped then 1 else 0) ∷ flat_map (λ e. numbers_if_sealed (snapshot e)) epochs
-
 coordinator_same : (h : HubValues) (e : Event) (spare : ℕ) → IsPlain e → has_ended (state_of h).past ≡ false → coordinator_part (with_event h e spare) ≡ coordinator_part h
 coordinator_same h e spare p going =
     let new = with_event h e spare in
     let past = ap (λ (s : State). s.past) (state_grown h new e (refl, refl, refl, refl)) in
     let unkept = ap (λ (past : List Event). sealed_epoch past) past ∙ sealed_same e p (state_of h).past in
     let stopped = ap (λ (past : List Event). is_stopped_by_disk past) past ∙ (no_disk e p (state_of h).past ∙ sym (going_no_disk (state_of h).past going)) in
-    λ t. coordinator_from (epochs_more e p h.journal.events t) (unkept t) (stopped t) (λ epoch. sealed_more (machine h) epoch e p h.journal.events (start_state h.start) t)
+    λ t. numbers_of_cuts (unkept t) (stopped t) (sealed_more (machine h) e (plain_seals_none e p) h.journal.events (start_state h.start) t)
 
 -- ---- a lane's part
 

@@ -1,6 +1,6 @@
 -- The notes of a hub: what each lane, and the coordinator, may rely on while others have the hub.
 -- A note is a list of numbers. It begins with the ground, which is the same for all: the numbers of the job and of the start, and how many these are. After it comes what is a lane's own, or the coordinator's.
-use Rattle.std.specs.Prelude.{◌≡◌, ℕ, ◌+◌, ◌≤◌, Bool, true, false, not, ◌&&◌, if◌then◌else◌, nat_lt, ◌==◌, List, [], ◌∷◌, ◌++◌, Option, Some, None, length, take, drop, flat_map, slice_index_or}
+use Rattle.std.specs.Prelude.{◌≡◌, ℕ, ◌+◌, ◌≤◌, Bool, true, false, if◌then◌else◌, nat_lt, ◌==◌, List, [], ◌∷◌, ◌++◌, Option, Some, None, length, take, drop, flat_map, slice_index_or}
 use Rattle.graph_core.specs.declared.edge.Edge.{Edge}
 use Rattle.graph_core.specs.Digraph.{Digraph}
 use Rattle.graph_core.specs.PatternGraph.{PatternGraph}
@@ -21,8 +21,7 @@ use Rattle.token_cut.specs.declared.phase.Phase.TheVariants as phase
 use Rattle.token_cut.specs.Parts.{PartValues, SnapshotParts}
 use Rattle.base_machine.specs.Machine.{worker_at, hand_of}
 use Rattle.legal_journal.specs.Legal.{State, worker_count, is_out_with}
-use Rattle.legal_journal.specs.Choices.{sealed_epochs}
-use Rattle.legal_journal.specs.Cuts.{sealed_snapshot}
+use Rattle.legal_journal.specs.Cuts.{sealed_snapshots}
 use Rattle.grape_hub.specs.HubValues.{HubValues}
 use Rattle.grape_hub.specs.States.{machine, state_of, take_place, sealed_epoch}
 use Rattle.grape_hub.specs.declared.lane_record.LaneRecord.{LaneRecord}
@@ -114,19 +113,17 @@ abbrev pub is_stopped_by_disk : List Event → Bool
 is_stopped_by_disk (Stop Disk ∷ past) = true
 is_stopped_by_disk _ = false
 
-abbrev pub numbers_if_sealed : Option SnapshotParts → List ℕ
-numbers_if_sealed None = []
-numbers_if_sealed (Some snapshot) = numbers_of_snapshot snapshot
+abbrev pub zero_or_one : Bool → ℕ
+zero_or_one false = 0
+zero_or_one true = 1
 
--- The epoch that is sealed and not kept yet, or 0; 1 where the disk stopped the run, or 0; and the sealed snapshots in order.
-abbrev pub coordinator_numbers : HubValues → List ℕ
-coordinator_numbers h =
-    or_zero (sealed_epoch (state_of h).past) ∷ (if is_stopped_by_disk (state_of h).past then 1 else 0)
-    ∷ flat_map (λ e. numbers_if_sealed (sealed_snapshot (machine h) h.start e h.journal.events)) (sealed_epochs h.journal.events)
+-- The epoch that is sealed and not kept yet, or 0; 1 where the disk stopped the run, or 0; and the sealed snapshots in order. Nothing where nothing was sealed and the disk didn't stop the run.
+abbrev pub numbers_of_cuts : Option ℕ → Bool → List SnapshotParts → List ℕ
+numbers_of_cuts unkept stopped [] = if stopped then or_zero unkept ∷ 1 ∷ [] else []
+numbers_of_cuts unkept stopped (s ∷ cuts) = or_zero unkept ∷ zero_or_one stopped ∷ flat_map numbers_of_snapshot (s ∷ cuts)
 
--- nothing where no epoch was sealed and the disk didn't stop the run
 abbrev pub coordinator_part : HubValues → List ℕ
-coordinator_part h = if length (sealed_epochs h.journal.events) == 0 && not (is_stopped_by_disk (state_of h).past) then [] else coordinator_numbers h
+coordinator_part h = numbers_of_cuts (sealed_epoch (state_of h).past) (is_stopped_by_disk (state_of h).past) (sealed_snapshots (machine h) h.start h.journal.events)
 
 -- ---- the notes
 

@@ -28,7 +28,7 @@ use Rattle.grape_hub.specs.Calls.{Appended, IsWork, IsReady, MayGive}
 use Rattle.grape_hub.specs.States.{machine, state_of, workers_of, sealed_epoch, IsHub}
 use Rattle.grape_hub.specs.Choices.{MayChoose}
 use Rattle.grape_hub.specs.LanedHub.{LanedHub, lane_at, is_out_at, IsLanedHub}
-use Rattle.grape_hub.specs.Notes.{ground_of, ground_in, calls_in, answer_in, length_in, note_of, HasNoWork}
+use Rattle.grape_hub.specs.Notes.{ground_of, is_stopped_by_disk, numbers_of_cuts, ground_in, own_in, calls_in, answer_in, length_in, note_of, HasNoWork}
 
 -- nobody is out
 abbrev pub IsCalm : HubValues → Type 0
@@ -177,6 +177,21 @@ RecordsTell =
     (x : LanedHub) (k : ℕ) → IsLanedHub x → k < x.hub.job.settings.lanes →
     (calls_in (note_of x k) ≡ (lane_at x k).calls) × (1 ≤ (lane_at x k).calls → answer_in (note_of x k) ≡ (lane_at x k).answer)
     × (1 ≤ (lane_at x k).calls → length_in (note_of x k) ≡ (lane_at x k).length)
+
+-- an epoch that waits to be kept is none of the beginning, and where one waits something was sealed
+abbrev pub WaitsAmong : Option ℕ → List SnapshotParts → Type 0
+WaitsAmong None cuts = Unit {0}
+WaitsAmong (Some epoch) cuts = (1 ≤ epoch) × (1 ≤ length cuts)
+
+-- The coordinator's note has the epoch that waits to be kept, whether the disk stopped the run, and the sealed snapshots; and it is the note of no others.
+abbrev pub CutsTell : Type 0
+CutsTell =
+    (x : LanedHub) → IsLanedHub x →
+    WaitsAmong (sealed_epoch (state_of x.hub).past) (sealed_snapshots (machine x.hub) x.hub.start x.hub.journal.events)
+    × (own_in (note_of x x.hub.job.settings.lanes)
+    ≡ numbers_of_cuts (sealed_epoch (state_of x.hub).past) (is_stopped_by_disk (state_of x.hub).past) (sealed_snapshots (machine x.hub) x.hub.start x.hub.journal.events))
+    × ((unkept : Option ℕ) (stopped : Bool) (cuts : List SnapshotParts) → WaitsAmong unkept cuts → own_in (note_of x x.hub.job.settings.lanes) ≡ numbers_of_cuts unkept stopped cuts →
+    (sealed_epoch (state_of x.hub).past ≡ unkept) × (is_stopped_by_disk (state_of x.hub).past ≡ stopped) × (sealed_snapshots (machine x.hub) x.hub.start x.hub.journal.events ≡ cuts))
 
 -- What a lane may give back to one hub it may give back to another that has the same note of it.
 abbrev pub WorksTell : Type 0

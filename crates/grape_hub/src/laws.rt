@@ -1,6 +1,6 @@
 ghost use Rattle.graph_core.specs.declared.job.Job.{Job};
 ghost use Rattle.graph_core.specs.Graphs.{IsJob};
-ghost use Rattle.grape_hub.specs.Theorems.{NothingIsSealed, WorksMayBeEvaluated, EvaluatedMayBeGiven, CalmIsFree, CalmAtBeginning, CalmAfterTurn, CalmAfterOther, IdleIsQuiet, OneLaneGoesOn, EndIsQuiet, HubsRun, IsConfluent, QuietIsTheAnswer, JournalIsBounded, CutsAreConsistent, SealedMayBeResumed, FreshIsAStart, KeptsFollowSeals, CutsMayBeResumed, WorksStay, LanesStay, GroundsTell, NotesBegin, EmptyIsFree, RecordsTell, WorksTell, CalmIsEmpty};
+ghost use Rattle.grape_hub.specs.Theorems.{NothingIsSealed, WorksMayBeEvaluated, EvaluatedMayBeGiven, CalmIsFree, CalmAtBeginning, CalmAfterTurn, CalmAfterOther, IdleIsQuiet, OneLaneGoesOn, EndIsQuiet, HubsRun, IsConfluent, QuietIsTheAnswer, JournalIsBounded, CutsAreConsistent, SealedMayBeResumed, FreshIsAStart, KeptsFollowSeals, CutsMayBeResumed, WorksStay, LanesStay, GroundsTell, NotesBegin, EmptyIsFree, RecordsTell, WorksTell, CutsTell, CalmIsEmpty};
 
 use pie_core::Pie;
 
@@ -87,13 +87,15 @@ pub fn fresh_is_a_start()
     ensures { FreshIsAStart }
 {}
 
-/// A note tells the job and the start, the lane's record, and the Work that the lane has out.
+/// A note tells the job and the start, the lane's record, and the Work that the lane has out. The coordinator's tells the
+/// epoch that waits to be kept, whether the disk stopped the run, and the sealed snapshots.
 pub fn notes_tell()
     ensures grounds { GroundsTell }
     ensures begin { NotesBegin }
     ensures empty { EmptyIsFree }
     ensures records { RecordsTell }
     ensures works { WorksTell }
+    ensures cuts { CutsTell }
 {}
 
 /// No lane has a Work out where nobody is out; until the journal has ended the converse holds too.

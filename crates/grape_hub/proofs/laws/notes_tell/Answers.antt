@@ -1,3 +1,4 @@
+use Rattle.grape_hub.proofs.CutNotes
 use Rattle.grape_hub.proofs.Grounds
 use Rattle.grape_hub.proofs.NoteLaws
 use Rattle.grape_hub.proofs.laws.notes_tell.Goals as goal
@@ -16,3 +17,6 @@ returns-clause-records c = NoteLaws.records_tell
 
 pub returns-clause-works : goal.returns-clause-works
 returns-clause-works c = NoteLaws.works_tell
+
+pub returns-clause-cuts : goal.returns-clause-cuts
+returns-clause-cuts c = CutNotes.cuts_tell
