@@ -1,5 +1,5 @@
 //! Runs on several lanes.
-ghost use Rattle.std.specs.Prelude.{◌≡◌, IfOk, vec_len};
+ghost use Rattle.std.specs.Prelude.{◌≡◌, ◌<◌, IfOk, vec_len};
 
 use crate::{Finish, Status, Words, grape};
 use coordinator::Story;
@@ -167,7 +167,9 @@ fn two_lanes_meet_at_the_gate(rt: HostRuntime) -> Result<(), Fail> {
 
 /// How many stretches of a worker a journal has that were lengthened by the worker's number and one, and how many by
 /// another number. The policy of the run is `bsp`, whose formula gives no turns.
-fn stretches_of(story: &Story, number: u32) -> (u64, u64) {
+fn stretches_of(story: &Story, number: u32) -> (u64, u64)
+    requires { number < 64 }
+{
     let mut own = 0_u64;
     let mut others = 0_u64;
     for place in 0..story.journal.len() {
