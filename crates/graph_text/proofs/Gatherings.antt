@@ -19,10 +19,10 @@ use Rattle.graph_text.specs.declared.fault.TextFault.{TextFault}
 use Rattle.graph_text.specs.declared.fault.TextFault.TheVariants as fault
 use Rattle.graph_text.specs.declared.statement.Question.{Question}
 use Rattle.graph_text.specs.declared.statement.Statement.{Statement}
-use Rattle.graph_text.specs.declared.statement.Statement.TheVariants.{Nothing, Joins, Vertex, Asks, Node, Link, Fragments, Lanes, Cuts, Follows}
+use Rattle.graph_text.specs.declared.statement.Statement.TheVariants.{Nothing, Joins, Vertex, Asks, Node, Link, Fragments, Lanes, Snapshots, Cuts, Follows}
 use Rattle.graph_text.specs.NumberSets.{insert_number, is_among}
 use Rattle.graph_text.specs.ReaderState.{GatheredState}
-use Rattle.graph_text.specs.Input.{bad, numbers_with, vertex_numbers, repeats, is_edge, is_link, are_too_many, cause_among, first_of, question_in, fragments_in, lanes_in, cut_in, policy_in, edge_in, node_in, link_in, pattern_of, has_node}
+use Rattle.graph_text.specs.Input.{bad, numbers_with, vertex_numbers, repeats, is_edge, is_link, are_too_many, cause_among, first_of, question_in, fragments_in, lanes_in, cut_in, policy_in, snapshot_in, edge_in, node_in, link_in, pattern_of, has_node}
 use Rattle.graph_text.specs.Gathering.{vertex_in, Holds}
 use Rattle.graph_text.specs.Reader.{Answers}
 use Rattle.graph_text.proofs.Jobs.{IsFew, few, count_edges, count_links, any-insert}
@@ -54,6 +54,11 @@ pub had_policy : (ss : List Statement) (p : Policy) → list_any (repeats (Follo
 had_policy [] p = refl
 had_policy (Follows q ∷ ss) p = refl
 had_policy (s ∷ ss) p = had_policy ss p
+
+pub had_period : (ss : List Statement) (n : ℕ) → list_any (repeats (Snapshots n)) ss ≡ is_some (first_of snapshot_in ss)
+had_period [] n = refl
+had_period (Snapshots m ∷ ss) n = refl
+had_period (s ∷ ss) n = had_period ss n
 
 pub was_labelled : (ss : List Statement) (n label : ℕ) → list_any (repeats (Vertex n label)) ss ≡ list_any (λ v. v.0 == n) (filter_map vertex_in ss)
 was_labelled [] n label = refl
@@ -186,16 +191,17 @@ each-added what ss s before after h e = e ∙ ap (λ xs. xs ++ cons_option (what
 
 -- what is held with one statement more
 pub holds-push : (g after : GatheredState) (ss : List Statement) (s : Statement) → Holds g ss
-    → after.query ≡ option_or g.query (question_in s) → after.fragments ≡ option_or g.fragments (fragments_in s) → after.lanes ≡ option_or g.lanes (lanes_in s) → after.cut ≡ option_or g.cut (cut_in s) → after.policy ≡ option_or g.policy (policy_in s)
+    → after.query ≡ option_or g.query (question_in s) → after.fragments ≡ option_or g.fragments (fragments_in s) → after.lanes ≡ option_or g.lanes (lanes_in s) → after.cut ≡ option_or g.cut (cut_in s) → after.policy ≡ option_or g.policy (policy_in s) → after.snapshot ≡ option_or g.snapshot (snapshot_in s)
     → after.edges ≡ g.edges ++ cons_option (edge_in s) [] → after.nodes ≡ g.nodes ++ cons_option (node_in s) [] → after.links ≡ g.links ++ cons_option (link_in s) [] → after.numbers ≡ numbers_with s g.numbers → after.labels ≡ g.labels ++ cons_option (vertex_in s) []
     → ((k : ℕ) → is_among k after.labelled ≡ list_any (λ v. v.0 == k) after.labels)
     → are_too_many (ss ++ s ∷ []) ≡ false → Holds after (ss ++ s ∷ [])
-holds-push g after ss s h query fragments lanes cut policy edges nodes links numbers labels labelled few = record {
+holds-push g after ss s h query fragments lanes cut policy snapshot edges nodes links numbers labels labelled few = record {
   query = first-added question_in ss s g.query after.query h.query query;
   fragments = first-added fragments_in ss s g.fragments after.fragments h.fragments fragments;
   lanes = first-added lanes_in ss s g.lanes after.lanes h.lanes lanes;
   cut = first-added cut_in ss s g.cut after.cut h.cut cut;
   policy = first-added policy_in ss s g.policy after.policy h.policy policy;
+  snapshot = first-added snapshot_in ss s g.snapshot after.snapshot h.snapshot snapshot;
   edges = each-added edge_in ss s g.edges after.edges h.edges edges;
   nodes = each-added node_in ss s g.nodes after.nodes h.nodes nodes;
   links = each-added link_in ss s g.links after.links h.links links;

@@ -12,8 +12,8 @@ use Rattle.graph_text.specs.declared.fault.Why.TheVariants as causes
 use Rattle.graph_text.specs.declared.statement.Question.{Question}
 use Rattle.graph_text.specs.declared.statement.Question.TheVariants.{Distances, Labels, Reaches, Simulation}
 use Rattle.graph_text.specs.declared.statement.Statement.{Statement}
-use Rattle.graph_text.specs.declared.statement.Statement.TheVariants.{Nothing, Joins, Vertex, Asks, Node, Link, Fragments, Lanes, Cuts, Follows}
-use Rattle.graph_text.specs.Statements.{Range, is_in, are_in, word32, node_number, fragment_count, lane_count, rounds_ahead, batch_count, cons_number, numbers_of, statement_in, made_of, first, second, Form, completed, statement_by, edge_form, one_word_forms, query_forms, cut_forms, policy_forms, second_word_forms, statement_if, statement_among, keyword_statement, begins_with_digit, is_comment, statement_of}
+use Rattle.graph_text.specs.declared.statement.Statement.TheVariants.{Nothing, Joins, Vertex, Asks, Node, Link, Fragments, Lanes, Snapshots, Cuts, Follows}
+use Rattle.graph_text.specs.Statements.{Range, is_in, are_in, word32, node_number, fragment_count, lane_count, snapshot_period, rounds_ahead, batch_count, cons_number, numbers_of, statement_in, made_of, first, second, Form, completed, statement_by, edge_form, one_word_forms, query_forms, cut_forms, policy_forms, second_word_forms, statement_if, statement_among, keyword_statement, begins_with_digit, is_comment, statement_of}
 
 abbrev pub AsksInRange : Question → Type 0
 AsksInRange (Distances source) = source < 2 ^ 32
@@ -30,6 +30,7 @@ InRange (Node node) = (node.number < 64) × (node.label < 2 ^ 32)
 InRange (Link link) = (link.from < 64) × (link.to < 64)
 InRange (Fragments n) = (1 ≤ n) × (n ≤ 64)
 InRange (Lanes n) = (1 ≤ n) × (n ≤ 16)
+InRange (Snapshots n) = n < 2 ^ 32
 InRange (Cuts c) = ⊤
 InRange (Follows p) = IsPolicy p
 
@@ -132,7 +133,10 @@ one_words_make = (
       makes_two node_number node_number (λ ns. Link (record { from = first ns; to = second ns })) (λ n m a b c d. (omega (arith, b), omega (arith, d))),
       (
         makes_one fragment_count (λ ns. Fragments (first ns)) (λ n a b. (a, b)),
-        (makes_one lane_count (λ ns. Lanes (first ns)) (λ n a b. (a, b)), tt),
+        (
+          makes_one lane_count (λ ns. Lanes (first ns)) (λ n a b. (a, b)),
+          (makes_one snapshot_period (λ ns. Snapshots (first ns)) (λ n a b. omega (arith, b)), tt),
+        ),
       ),
     ),
   ),

@@ -5,7 +5,7 @@ use Rattle.graph_text.specs.declared.statement.Statement.{Statement}
 use Rattle.graph_text.specs.declared.statement.Statement.TheVariants.{Vertex}
 use Rattle.graph_text.specs.NumberSets.{is_among}
 use Rattle.graph_text.specs.ReaderState.{GatheredState}
-use Rattle.graph_text.specs.Input.{vertex_numbers, are_too_many, first_of, question_in, fragments_in, lanes_in, cut_in, policy_in, edge_in, node_in, link_in}
+use Rattle.graph_text.specs.Input.{vertex_numbers, are_too_many, first_of, question_in, fragments_in, lanes_in, cut_in, policy_in, snapshot_in, edge_in, node_in, link_in}
 
 -- the vertex and the label that a statement names
 abbrev pub vertex_in : Statement → Option (ℕ × ℕ)
@@ -20,6 +20,7 @@ pub record Holds (g : GatheredState) (ss : List Statement) : Type 0 where
   pub lanes : g.lanes ≡ first_of lanes_in ss
   pub cut : g.cut ≡ first_of cut_in ss
   pub policy : g.policy ≡ first_of policy_in ss
+  pub snapshot : g.snapshot ≡ first_of snapshot_in ss
   pub edges : g.edges ≡ filter_map edge_in ss
   pub nodes : g.nodes ≡ filter_map node_in ss
   pub links : g.links ≡ filter_map link_in ss

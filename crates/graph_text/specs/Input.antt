@@ -1,5 +1,5 @@
 -- Which texts are an input, and which job each of them is.
-use Rattle.std.specs.Prelude.{◌≡◌, ℕ, ◌+◌, ◌==◌, Bool, true, false, ◌&&◌, ◌||◌, nat_lt, if◌then◌else◌, List, [], ◌∷◌, ◌++◌, length, map, filter_map, count_by, Option, Some, None, unwrap_or, option_map, Result, Ok, Err}
+use Rattle.std.specs.Prelude.{ℕ, ◌+◌, ◌==◌, Bool, true, false, ◌&&◌, ◌||◌, nat_lt, if◌then◌else◌, List, [], ◌∷◌, ◌++◌, length, map, filter_map, count_by, Option, Some, None, unwrap_or, option_map, Result, Ok, Err}
 use Rattle.std.specs.List.{list_any, list_all}
 use Rattle.std.specs.Option.{option_or}
 use Rattle.std.specs.Result.{result_ok}
@@ -22,7 +22,7 @@ use Rattle.graph_text.specs.Lines.{lines_of, words_of, is_ended, is_too_long}
 use Rattle.graph_text.specs.declared.statement.Question.{Question}
 use Rattle.graph_text.specs.declared.statement.Question.TheVariants.{Distances, Labels, Reaches, Simulation}
 use Rattle.graph_text.specs.declared.statement.Statement.{Statement}
-use Rattle.graph_text.specs.declared.statement.Statement.TheVariants.{Joins, Vertex, Asks, Node, Link, Fragments, Lanes, Cuts, Follows}
+use Rattle.graph_text.specs.declared.statement.Statement.TheVariants.{Joins, Vertex, Asks, Node, Link, Fragments, Lanes, Snapshots, Cuts, Follows}
 use Rattle.graph_text.specs.Statements.{statement_of}
 use Rattle.graph_text.specs.NumberSets.{insert_number, is_among}
 
@@ -54,6 +54,7 @@ abbrev pub repeats : Statement → Statement → Bool
 repeats (Asks q) (Asks r) = true
 repeats (Fragments m) (Fragments n) = true
 repeats (Lanes m) (Lanes n) = true
+repeats (Snapshots m) (Snapshots n) = true
 repeats (Cuts c) (Cuts d) = true
 repeats (Follows p) (Follows q) = true
 repeats (Vertex m k) (Vertex n l) = m == n
@@ -94,14 +95,6 @@ first_bad cause before [] = None
 first_bad cause before (line ∷ lines) =
     option_or (option_map (bad (length before + 1)) (cause before line)) (first_bad cause (before ++ line ∷ []) lines)
 
--- the setting whose line is not built stands at one value
-abbrev pub AreBuilt : Settings → Type 0
-AreBuilt settings = settings.snapshot ≡ 0
-
--- what a job is whose lines are built
-abbrev pub IsBuilt : Job → Type 0
-IsBuilt job = AreBuilt job.settings
-
 -- what the first statement of a kind says
 abbrev pub first_of : {X : Type 0} → (Statement → Option X) → List Statement → Option X
 first_of what [] = None
@@ -131,6 +124,10 @@ abbrev pub lanes_in : Statement → Option ℕ
 lanes_in (Lanes n) = Some n
 lanes_in s = None
 
+abbrev pub snapshot_in : Statement → Option ℕ
+snapshot_in (Snapshots n) = Some n
+snapshot_in s = None
+
 abbrev pub cut_in : Statement → Option Cut
 cut_in (Cuts c) = Some c
 cut_in s = None
@@ -143,8 +140,8 @@ abbrev pub label_in : ℕ → Statement → Option ℕ
 label_in number (Vertex n label) = if n == number then Some label else None
 label_in number s = None
 
--- The settings, with what holds where a line is missing: 4 fragments, cut by a hash, 2 lanes, and a fragment runs at most
--- 4 rounds ahead and lets mail gather up to 2 batches. No line asks for snapshots yet: there are none.
+-- The settings, with what holds where a line is missing: 4 fragments, cut by a hash, 2 lanes, a fragment runs at most 4
+-- rounds ahead and lets mail gather up to 2 batches, and there are no snapshots.
 abbrev pub settings_of : List Statement → Settings
 settings_of ss =
     record {
@@ -152,7 +149,7 @@ settings_of ss =
       lanes = unwrap_or (first_of lanes_in ss) 2;
       cut = unwrap_or (first_of cut_in ss) cut.Hash;
       policy = unwrap_or (first_of policy_in ss) (policy.Aap 4 2);
-      snapshot = 0;
+      snapshot = unwrap_or (first_of snapshot_in ss) 0;
     }
 
 -- the label that a line gives to the vertex with this number, or 0

@@ -18,6 +18,7 @@ pub record GatheredState : Type 0 where
   pub lanes : Option ℕ
   pub cut : Option Cut
   pub policy : Option Policy
+  pub snapshot : Option ℕ
   pub edges : List Edge
   pub nodes : List PatternNode
   pub links : List PatternLink
@@ -26,7 +27,7 @@ pub record GatheredState : Type 0 where
   pub labelled : List ℕ
 
 abbrev pub gathered_state : Gathered → GatheredState
-gathered_state g = record { query = g.query; fragments = g.fragments; lanes = g.lanes; cut = g.cut; policy = g.policy; edges = g.edges.items; nodes = g.nodes.items; links = g.links.items; numbers = g.numbers; labels = g.labels.items; labelled = g.labelled }
+gathered_state g = record { query = g.query; fragments = g.fragments; lanes = g.lanes; cut = g.cut; policy = g.policy; snapshot = g.snapshot; edges = g.edges.items; nodes = g.nodes.items; links = g.links.items; numbers = g.numbers; labels = g.labels.items; labelled = g.labelled }
 
 -- what is kept of the lines
 pub record LinesState : Type 0 where

@@ -56,6 +56,15 @@ empty_under lanes p =
       settings = record { fragments = 4; lanes = lanes; cut = cut.Hash; policy = p; snapshot = 0 };
     }
 
+-- labels on no vertices, with a snapshot after so many Takes
+abbrev pub empty_with_snapshots : ℕ → Job
+empty_with_snapshots period =
+    record {
+      graph = record { vertices = []; edges = [] };
+      query = query.Label;
+      settings = record { fragments = 4; lanes = 2; cut = cut.Hash; policy = policy.Aap 4 2; snapshot = period };
+    }
+
 -- the simulation of two nodes that link to each other
 abbrev pub cycle_job : Job
 cycle_job =

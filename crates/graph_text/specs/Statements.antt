@@ -8,7 +8,7 @@ use Rattle.graph_text.specs.declared.fault.Why.{Why}
 use Rattle.graph_text.specs.declared.fault.Why.TheVariants as causes
 use Rattle.graph_text.specs.declared.statement.Question.TheVariants.{Distances, Labels, Reaches, Simulation}
 use Rattle.graph_text.specs.declared.statement.Statement.{Statement}
-use Rattle.graph_text.specs.declared.statement.Statement.TheVariants.{Nothing, Joins, Vertex, Asks, Node, Link, Fragments, Lanes, Cuts, Follows}
+use Rattle.graph_text.specs.declared.statement.Statement.TheVariants.{Nothing, Joins, Vertex, Asks, Node, Link, Fragments, Lanes, Snapshots, Cuts, Follows}
 
 -- the numbers from the first to the second one
 pub record Range : Type 0 where
@@ -33,6 +33,10 @@ fragment_count = record { low = 1; high = 64 }
 -- how many lanes there may be
 abbrev pub lane_count : Range
 lane_count = record { low = 1; high = 16 }
+
+-- after how many Takes a snapshot may be due; 0 asks for none
+abbrev pub snapshot_period : Range
+snapshot_period = record { low = 0; high = 2 ^ 32 - 1 }
 
 -- how many rounds a policy may let a fragment run ahead
 abbrev pub rounds_ahead : Range
@@ -89,7 +93,7 @@ completed (Some last) count words = if length words + 1 == count then words ++ l
 abbrev pub statement_by : Form → List (List ℕ) → Result Statement Why
 statement_by form words = made_of form.ranges form.says (completed form.last (length form.ranges) words)
 
--- The tables of the keywords that are built: a keyword without a row is refused as an unknown word.
+-- The tables of the keywords: a word without a row is refused as an unknown one.
 
 -- an edge: two vertices and a weight, which is 1 where it is left out
 abbrev pub edge_form : Form
@@ -102,7 +106,8 @@ edge_form =
     }
 
 -- the forms that the first word names alone: a vertex with its label, which is 0 where it is left out, a node of the
--- pattern with its label, a link from node to node, a count of fragments, and one of lanes
+-- pattern with its label, a link from node to node, a count of fragments, one of lanes, and after how many Takes a
+-- snapshot is due
 abbrev pub one_word_forms : List Form
 one_word_forms =
     record { keyword = codes "v"; ranges = word32 ∷ word32 ∷ []; says = λ ns. Vertex (first ns) (second ns); last = Some (codes "0") }
@@ -110,6 +115,7 @@ one_word_forms =
     ∷ record { keyword = codes "link"; ranges = node_number ∷ node_number ∷ []; says = λ ns. Link (record { from = first ns; to = second ns }); last = None }
     ∷ record { keyword = codes "fragments"; ranges = fragment_count ∷ []; says = λ ns. Fragments (first ns); last = None }
     ∷ record { keyword = codes "lanes"; ranges = lane_count ∷ []; says = λ ns. Lanes (first ns); last = None }
+    ∷ record { keyword = codes "snapshot"; ranges = snapshot_period ∷ []; says = λ ns. Snapshots (first ns); last = None }
     ∷ []
 
 -- the forms that the word behind `query` names

@@ -4,7 +4,7 @@ use std::alloc::{AllocError, AllocFailed};
 /// Why a line is bad.
 #[derive(Clone, Copy, Debug, PartialEq, Eq)]
 pub enum Why {
-    /// The first word, or the one behind `query`, `cut` or `policy`, is none that is built.
+    /// The first word, or the one behind `query`, `cut` or `policy`, is none that may stand there.
     Word,
     /// A word in the place of a number is none below 2^64.
     Number,

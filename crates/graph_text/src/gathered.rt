@@ -1,7 +1,7 @@
 ghost use Rattle.std.specs.Prelude.{◌≡◌, ℕ, ◌+◌, List, [], ◌∷◌, ◌++◌, length, filter_map, Ok, None, Some, IsSome, option_map, OnOk, IfOk, IfErr};
 ghost use Rattle.graph_core.specs.Graphs.{IsJob, MakeGraph, graph_of};
 ghost use Rattle.graph_text.specs.declared.statement.Statement.{Statement as Said};
-ghost use Rattle.graph_text.specs.Input.{bad, cause_among, statements_of, first_bad, cause_of, job_of_lines, vertices_of, settings_of, query_of, missing_source, missing_pattern, missing_for, edge_in, AreBuilt, IsBuilt};
+ghost use Rattle.graph_text.specs.Input.{bad, cause_among, statements_of, first_bad, cause_of, job_of_lines, vertices_of, settings_of, query_of, missing_source, missing_pattern, missing_for, edge_in};
 ghost use Rattle.graph_text.specs.ReaderState.{gathered_state};
 ghost use Rattle.graph_text.specs.Gathering.{Holds};
 ghost use Rattle.graph_text.specs.Reader.{Answers, Gives};
@@ -34,6 +34,9 @@ const DEFAULT_LANES: u32 = 2;
 /// The policy where no line gives one.
 const DEFAULT_POLICY: Policy = Policy::Aap { c: 4, l: 2 };
 
+/// The Takes from one snapshot to the next where no line gives them: there are no snapshots.
+const DEFAULT_SNAPSHOT: u32 = 0;
+
 /// What the lines so far have said.
 #[derive(Drop)]
 pub(crate) struct Gathered {
@@ -42,6 +45,7 @@ pub(crate) struct Gathered {
     lanes: Option<u32>,
     cut: Option<Cut>,
     policy: Option<Policy>,
+    snapshot: Option<u32>,
     /// In the order of their lines, by vertex numbers.
     edges: Vec<Edge>,
     /// In the order of their lines, each number once.
@@ -67,6 +71,7 @@ impl Gathered {
             lanes: None,
             cut: None,
             policy: None,
+            snapshot: None,
             edges: Vec::new(alloc),
             nodes: Vec::new(alloc),
             links: Vec::new(alloc),
@@ -90,6 +95,7 @@ impl Gathered {
             Statement::Link(link) => self.add_link(line, link),
             Statement::Fragments(count) => keep_once(&mut self.fragments, count, line),
             Statement::Lanes(count) => keep_once(&mut self.lanes, count, line),
+            Statement::Snapshots(period) => keep_once(&mut self.snapshot, period, line),
             Statement::Cuts(cut) => keep_once(&mut self.cut, cut, line),
             Statement::Follows(policy) => keep_once(&mut self.policy, policy, line),
         }
@@ -163,7 +169,6 @@ impl Gathered {
         requires { (lines : List (List ℕ)) × Holds (gathered_state self) (statements_of lines) × (first_bad cause_of [] lines ≡ None) }
         ensures answer { (lines : List (List ℕ)) → Holds (gathered_state self) (statements_of lines) → first_bad cause_of [] lines ≡ None → line ≡ length lines + 1 → Gives result (job_of_lines lines None) }
         ensures job { IfOk result IsJob }
-        ensures built { IfOk result IsBuilt }
     {
         let Some(question) = self.query else {
             let why = Why::NoQuery;
@@ -218,15 +223,14 @@ impl Gathered {
 
     /// The settings that the lines give, and what holds where a line is missing.
     fn settings(&self) -> Settings
-        ensures exact { (ss : List Said) → Holds (gathered_state self.now) ss → result ≡ settings_of ss }
-        ensures built { AreBuilt result }
+        ensures { (ss : List Said) → Holds (gathered_state self.now) ss → result ≡ settings_of ss }
     {
         Settings {
             fragments: self.fragments.unwrap_or(DEFAULT_FRAGMENTS),
             lanes: self.lanes.unwrap_or(DEFAULT_LANES),
             cut: self.cut.unwrap_or(Cut::Hash),
             policy: self.policy.unwrap_or(DEFAULT_POLICY),
-            snapshot: 0,
+            snapshot: self.snapshot.unwrap_or(DEFAULT_SNAPSHOT),
         }
     }
 

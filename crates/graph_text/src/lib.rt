@@ -5,9 +5,9 @@
 //! that a piece cut.
 //!
 //! What the words of one line say is read without the others, as a `statement`: by `line_words`, for queries by
-//! `query_lines` and for settings by `setting_lines`. Of the settings only `snapshot` has no line yet. Which lines repeat
-//! another, or are too many, stands in module `gathered`, above a set of vertex numbers (`number_set`, over `flag_set`)
-//! and the labels beside them (`labels`). Whether nodes and links make a pattern stands in `pattern_lines`.
+//! `query_lines` and for settings by `setting_lines`. Which lines repeat another, or are too many, stands in module
+//! `gathered`, above a set of vertex numbers (`number_set`, over `flag_set`) and the labels beside them (`labels`). Whether
+//! nodes and links make a pattern stands in `pattern_lines`.
 #![tactic(auto)]
 
 mod fault;

@@ -2,7 +2,7 @@ ghost use Rattle.std.specs.Prelude.{◌≡◌, ◌≤◌, ℕ, ◌++◌, List, [
 ghost use Rattle.graph_core.specs.Graphs.{IsJob};
 ghost use Rattle.graph_text.specs.declared.fault.TextFault.{TextFault};
 ghost use Rattle.graph_text.specs.Lines.{MAX_INPUT};
-ghost use Rattle.graph_text.specs.Input.{input_of, shown_of, IsBuilt};
+ghost use Rattle.graph_text.specs.Input.{input_of, shown_of};
 ghost use Rattle.graph_text.specs.Reader.{HasRead, HasFailed, Answers, Gives};
 
 use crate::fault::TextFault;
@@ -69,7 +69,6 @@ impl LineReader {
         ensures answer { (text : List ℕ) → HasRead self text → Gives result (input_of text) }
         ensures again { (fault : TextFault) → HasFailed self fault → result ≡ Err fault }
         ensures job { IfOk result IsJob }
-        ensures built { IfOk result IsBuilt }
     {
         let LineReader { text, fault } = self;
         match fault {

@@ -4,7 +4,7 @@ ghost use Rattle.graph_text.specs.Statements.{statement_of, statement_by, statem
 
 use crate::fault::Why;
 use crate::query_lines::read_query;
-use crate::setting_lines::{read_cut, read_fragments, read_lanes, read_policy};
+use crate::setting_lines::{read_cut, read_fragments, read_lanes, read_policy, read_snapshot};
 use crate::statement::Statement;
 use crate::words::{split_word, two_words, without_line_end};
 use grape_port::read_number;
@@ -48,6 +48,8 @@ fn read_keyword(word: &[u8], rest: &[u8]) -> Result<Statement, Why>
         read_fragments(rest)
     } else if word == b"lanes".as_slice() {
         read_lanes(rest)
+    } else if word == b"snapshot".as_slice() {
+        read_snapshot(rest)
     } else {
         Err(Why::Word)
     }

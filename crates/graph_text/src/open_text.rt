@@ -21,7 +21,7 @@ pub(crate) struct OpenText {
 
 impl OpenText {
     ghost use Rattle.graph_core.specs.Graphs.{IsJob};
-    ghost use Rattle.graph_text.specs.Input.{input_of, shown_of, IsBuilt};
+    ghost use Rattle.graph_text.specs.Input.{input_of, shown_of};
     ghost use Rattle.graph_text.specs.ReaderState.{text_state};
     ghost use Rattle.graph_text.specs.Reader.{HasText, Answers, Gives};
 
@@ -91,7 +91,6 @@ impl OpenText {
         requires { (text : List ℕ) × HasText (text_state self) text }
         ensures answer { (text : List ℕ) → HasText (text_state self) text → Gives result (input_of text) }
         ensures job { IfOk result IsJob }
-        ensures built { IfOk result IsBuilt }
     {
         let OpenText { mut whole, line } = self;
         whole.take_last(&line)?;

@@ -36,6 +36,14 @@ pub(crate) fn read_lanes(rest: &[u8]) -> Result<Statement, Why>
     Ok(Statement::Lanes(count))
 }
 
+/// After how many Takes a snapshot is due, by the one word behind `snapshot`.
+pub(crate) fn read_snapshot(rest: &[u8]) -> Result<Statement, Why>
+    ensures { result ≡ statement_among one_word_forms (codes "snapshot" ∷ words_in rest.now) }
+{
+    let period = only_number(rest, 0, u32::MAX)?;
+    Ok(Statement::Snapshots(period))
+}
+
 /// The cut that the words behind `cut` are.
 pub(crate) fn read_cut(rest: &[u8]) -> Result<Statement, Why>
     ensures { result ≡ statement_among cut_forms (words_in rest.now) }

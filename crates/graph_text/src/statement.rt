@@ -32,6 +32,8 @@ pub enum Statement {
     Fragments(u32),
     /// How many threads serve them, 1 to 16.
     Lanes(u32),
+    /// After how many Takes a snapshot is due; 0 asks for none.
+    Snapshots(u32),
     /// How the graph is cut.
     Cuts(Cut),
     /// The policy: how far a fragment may run ahead of those that still have work.

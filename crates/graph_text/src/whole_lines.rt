@@ -27,7 +27,7 @@ pub(crate) struct WholeLines {
 impl WholeLines {
     ghost use Rattle.graph_core.specs.Graphs.{IsJob};
     ghost use Rattle.graph_text.specs.declared.statement.Statement.{Statement as Said};
-    ghost use Rattle.graph_text.specs.Input.{bad, cause_among, first_bad, cause_of, job_of_lines, IsBuilt};
+    ghost use Rattle.graph_text.specs.Input.{bad, cause_among, first_bad, cause_of, job_of_lines};
     ghost use Rattle.graph_text.specs.ReaderState.{gathered_state, lines_state};
     ghost use Rattle.graph_text.specs.Gathering.{Holds};
     ghost use Rattle.graph_text.specs.Reader.{HasLines, Answers, Gives};
@@ -111,7 +111,6 @@ impl WholeLines {
         requires { (lines : List (List ℕ)) × HasLines (lines_state self) lines }
         ensures answer { (lines : List (List ℕ)) → HasLines (lines_state self) lines → Gives result (job_of_lines lines None) }
         ensures job { IfOk result IsJob }
-        ensures built { IfOk result IsBuilt }
     {
         let line = self.count + 1;
         self.gathered.into_job(line)

@@ -1,6 +1,6 @@
 ghost use Rattle.std.specs.Prelude.{◌≡◌, [], codes, replicate};
 ghost use Rattle.graph_text.specs.Input.{input_of, shown_of, bad};
-ghost use Rattle.graph_text.specs.Rows.{detour_job, to_and_fro, alone_job, labelled_job, empty_job, empty_under, download_job, cycle_job, unused_job};
+ghost use Rattle.graph_text.specs.Rows.{detour_job, to_and_fro, alone_job, labelled_job, empty_job, empty_under, empty_with_snapshots, download_job, cycle_job, unused_job};
 
 use crate::fault::Why;
 use graph_core::Policy;
@@ -30,7 +30,13 @@ pub fn rows()
     ensures other_query { input_of (codes "query label\nquery reach 1\n") ≡ Err (bad 2 Why.Twice) }
     ensures reach_source { input_of (codes "query reach 9\n1 2\n") ≡ Err (bad 3 Why.NoSource) }
     ensures download { input_of (codes "# Directed graph\r\n# FromNodeId\tToNodeId\r\nquery reach 0\r\n0\t11342\r\n0\t824020\r\n11342\t0") ≡ Ok download_job }
-    ensures unbuilt_keyword { input_of (codes "snapshot 2") ≡ Err (bad 1 Why.Word) }
+    ensures snapshots { input_of (codes "snapshot 2\nquery label\n") ≡ Ok (empty_with_snapshots 2) }
+    ensures no_snapshots { input_of (codes "query label\nsnapshot 0") ≡ Ok (empty_with_snapshots 0) }
+    ensures rarest_snapshots { input_of (codes "query label\nsnapshot 4294967295\n") ≡ Ok (empty_with_snapshots 4294967295) }
+    ensures snapshot_count { input_of (codes "snapshot") ≡ Err (bad 1 Why.Count) }
+    ensures snapshot_number { input_of (codes "snapshot x") ≡ Err (bad 1 Why.Number) }
+    ensures snapshot_range { input_of (codes "snapshot 4294967296") ≡ Err (bad 1 Why.Range) }
+    ensures second_snapshot { input_of (codes "snapshot 2\nsnapshot 0\n") ≡ Err (bad 2 Why.Twice) }
     ensures lanes { input_of (codes "query label\nlanes 16\n") ≡ Ok (empty_under 16 (Policy.Aap 4 2)) }
     ensures lanes_count { input_of (codes "lanes") ≡ Err (bad 1 Why.Count) }
     ensures no_lanes { input_of (codes "lanes 0") ≡ Err (bad 1 Why.Range) }

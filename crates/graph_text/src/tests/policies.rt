@@ -1,4 +1,4 @@
-//! The lanes and the policy of a job.
+//! The lanes, the policy and the snapshots of a job.
 
 use super::feed;
 use crate::LineReader;
@@ -46,6 +46,34 @@ fn policy_table() -> [(&'static [u8], u32, Policy); 12] {
             Policy::Aap { c: 5, l: 3 },
         ),
     ]
+}
+
+/// Lines that give the Takes from one snapshot to the next, and how many these are.
+fn snapshot_table() -> [(&'static [u8], u32); 6] {
+    [
+        (b"", 0),
+        (b"snapshot 0\n", 0),
+        (b"snapshot 1", 1),
+        (b"lanes 1\n snapshot\t002 \r\npolicy ap\n", 2),
+        (b"# snapshot 7\nsnapshot 4294967294\n1 2", 4_294_967_294),
+        (b"snapshot 4294967295\r\n", 4_294_967_295),
+    ]
+}
+
+#[test]
+fn snapshots(rt: HostRuntime) -> Result<(), Fail> {
+    for (lines, snapshot) in snapshot_table() {
+        for size in [1usize, 3, 4096] {
+            let mut reader = LineReader::new(rt.alloc())?;
+            assert_eq!(rt; reader.feed(b"query label\n"), Ok(()));
+            assert_eq!(rt; feed(&mut reader, lines, size), Ok(()));
+            let Ok(job) = reader.finish() else {
+                panic!(rt; "no job of {lines:?} in pieces of {size}")
+            };
+            assert_eq!(rt; job.settings.snapshot, snapshot);
+        }
+    }
+    Ok(())
 }
 
 #[test]

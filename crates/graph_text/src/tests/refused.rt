@@ -9,7 +9,7 @@ fn bad_table() -> [(&'static [u8], u64, Why); 22] {
     [
         (b"hello", 1, Why::Word),
         (b"query foo", 1, Why::Word),
-        (b"query\tdist 0\nsnapshot 2\n", 2, Why::Word),
+        (b"query\tdist 0\nsnapshots 2\n", 2, Why::Word),
         (b"-1 2", 1, Why::Word),
         (b"query", 1, Why::Count),
         (b"query dist", 1, Why::Count),

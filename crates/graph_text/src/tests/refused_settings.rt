@@ -34,7 +34,7 @@ fn bad_fragments_and_cuts() -> [(&'static [u8], u64, Why); 24] {
     ]
 }
 
-fn bad_lanes() -> [(&'static [u8], u64, Why); 15] {
+fn bad_lanes() -> [(&'static [u8], u64, Why); 14] {
     [
         (b"lane 2", 1, Why::Word),
         (b"Lanes 2", 1, Why::Word),
@@ -50,7 +50,34 @@ fn bad_lanes() -> [(&'static [u8], u64, Why); 15] {
         (b"lanes 16\nfragments 2\nlanes 2\nhello\n", 3, Why::Twice),
         (b"lanes 2\nlanes 17\nlanes 2", 2, Why::Range),
         (b"lanes 3\nfragments 3\n", 3, Why::NoQuery),
-        (b"snapshot 0", 1, Why::Word),
+    ]
+}
+
+fn bad_snapshots() -> [(&'static [u8], u64, Why); 15] {
+    [
+        (b"snapshots 2", 1, Why::Word),
+        (b"Snapshot 2", 1, Why::Word),
+        (b"snapshot", 1, Why::Count),
+        (b"snapshot 2 2", 1, Why::Count),
+        (b"snapshot x 2", 1, Why::Count),
+        (b"snapshot x", 1, Why::Number),
+        (b"snapshot -1", 1, Why::Number),
+        (b"snapshot 18446744073709551616", 1, Why::Number),
+        (b"snapshot 4294967296", 1, Why::Range),
+        (
+            b"query label\nsnapshot 18446744073709551615\n",
+            2,
+            Why::Range,
+        ),
+        (b"snapshot 0\nsnapshot 0", 2, Why::Twice),
+        (b"snapshot 1\nlanes 2\nsnapshot 2\nhello\n", 3, Why::Twice),
+        (
+            b"snapshot 2\nsnapshot 4294967296\nsnapshot 2",
+            2,
+            Why::Range,
+        ),
+        (b"snapshot 4294967296\nsnapshot", 1, Why::Range),
+        (b"snapshot 3\nfragments 3\n", 3, Why::NoQuery),
     ]
 }
 
@@ -97,5 +124,6 @@ fn bad_policies() -> [(&'static [u8], u64, Why); 34] {
 fn bad_settings(rt: HostRuntime) {
     check_refused(&rt, rt.alloc(), &bad_fragments_and_cuts());
     check_refused(&rt, rt.alloc(), &bad_lanes());
+    check_refused(&rt, rt.alloc(), &bad_snapshots());
     check_refused(&rt, rt.alloc(), &bad_policies());
 }

@@ -16,5 +16,5 @@ returns-clause-answer c = λ ss h.
 
 pub returns-clause-ok : goal.returns-clause-ok
 returns-clause-ok c = λ ss h.
-    holds-push (gathered_state c.args.self.now) _ ss (Link c.args.link) h (sym (or_none _)) (sym (or_none _)) (sym (or_none _)) (sym (or_none _)) (sym (or_none _)) (sym (append-nil _)) (sym (append-nil _)) c.in_ok-push.ensures.items refl (sym (append-nil _)) h.labelled
+    holds-push (gathered_state c.args.self.now) _ ss (Link c.args.link) h (sym (or_none _)) (sym (or_none _)) (sym (or_none _)) (sym (or_none _)) (sym (or_none _)) (sym (or_none _)) (sym (append-nil _)) (sym (append-nil _)) c.in_ok-push.ensures.items refl (sym (append-nil _)) h.labelled
     (few_links ss c.args.link h.few (omega (arith, ap length h.links)))

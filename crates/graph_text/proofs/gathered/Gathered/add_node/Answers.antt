@@ -17,5 +17,5 @@ returns-clause-answer c = λ ss h.
 
 pub returns-clause-ok : goal.returns-clause-ok
 returns-clause-ok c = λ ss h.
-    holds-push (gathered_state c.args.self.now) _ ss (Node c.args.node) h (sym (or_none _)) (sym (or_none _)) (sym (or_none _)) (sym (or_none _)) (sym (or_none _)) (sym (append-nil _)) c.in_ok-push.ensures.items (sym (append-nil _)) refl (sym (append-nil _)) h.labelled
+    holds-push (gathered_state c.args.self.now) _ ss (Node c.args.node) h (sym (or_none _)) (sym (or_none _)) (sym (or_none _)) (sym (or_none _)) (sym (or_none _)) (sym (or_none _)) (sym (append-nil _)) c.in_ok-push.ensures.items (sym (append-nil _)) refl (sym (append-nil _)) h.labelled
     (few_still ss (Node c.args.node) refl refl refl h.few)

@@ -12,4 +12,4 @@ pub returns-clause-job : goal.returns-clause-job
 returns-clause-job c =
     parts_are_job c.in_ok-graph.graph c.query_of-query.result c.settings-settings.result (statements_of c.requires.0) c.in-Some.question (c.in_ok-graph.ensures.ok (statements_of c.requires.0) c.requires.1)
     (c.query_of-query.ensures ∙ ap (λ p. query_of p c.in-Some.question) (held_pattern c.requires.1))
-    (c.settings-settings.ensures.exact (statements_of c.requires.0) c.requires.1) (good_text c.requires.0 c.requires.2) (sym c.requires.1.query ∙ c.in-Some.is)
+    (c.settings-settings.ensures (statements_of c.requires.0) c.requires.1) (good_text c.requires.0 c.requires.2) (sym c.requires.1.query ∙ c.in-Some.is)

@@ -25,5 +25,5 @@ pub returns-clause-ok : goal.returns-clause-ok
 returns-clause-ok c = λ ss h.
     let added = c.in_ok-insert-2.ensures.adds ∙ ap (insert_number c.args.edge.from) c.in_ok-insert.ensures.adds
     in let numbers = numbers-added ss (Joins c.args.edge) c.args.self.now.numbers _ h.numbers added
-    in holds-push (gathered_state c.args.self.now) _ ss (Joins c.args.edge) h (sym (or_none _)) (sym (or_none _)) (sym (or_none _)) (sym (or_none _)) (sym (or_none _)) c.in_ok-push.ensures.items (sym (append-nil _)) (sym (append-nil _)) added (sym (append-nil _)) h.labelled
+    in holds-push (gathered_state c.args.self.now) _ ss (Joins c.args.edge) h (sym (or_none _)) (sym (or_none _)) (sym (or_none _)) (sym (or_none _)) (sym (or_none _)) (sym (or_none _)) c.in_ok-push.ensures.items (sym (append-nil _)) (sym (append-nil _)) added (sym (append-nil _)) h.labelled
     (few_enough ss c.args.edge h.few (omega (arith, ap length h.edges)) (omega (arith, ap length numbers)))

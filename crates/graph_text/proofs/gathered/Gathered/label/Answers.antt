@@ -30,6 +30,6 @@ pub returns-clause-ok : goal.returns-clause-ok
 returns-clause-ok c = λ ss h.
     let numbers = numbers-added ss (Vertex c.args.number c.args.label) c.args.self.now.numbers _ h.numbers c.in_ok-insert.ensures.adds
     in let labelled = labelled-push c.args.number c.args.label c.args.self.now.labelled _ c.args.self.now.labels.items h.labelled c.in_ok-is_first.ensures.adds
-    in holds-push (gathered_state c.args.self.now) _ ss (Vertex c.args.number c.args.label) h (sym (or_none _)) (sym (or_none _)) (sym (or_none _)) (sym (or_none _)) (sym (or_none _)) (sym (append-nil _)) (sym (append-nil _)) (sym (append-nil _)) c.in_ok-insert.ensures.adds c.in_ok-push.ensures.items
+    in holds-push (gathered_state c.args.self.now) _ ss (Vertex c.args.number c.args.label) h (sym (or_none _)) (sym (or_none _)) (sym (or_none _)) (sym (or_none _)) (sym (or_none _)) (sym (or_none _)) (sym (append-nil _)) (sym (append-nil _)) (sym (append-nil _)) c.in_ok-insert.ensures.adds c.in_ok-push.ensures.items
     (λ k. labelled k ∙ ap (list_any (λ v. v.0 == k)) (sym c.in_ok-push.ensures.items))
     (few_vertices ss (Vertex c.args.number c.args.label) refl refl h.few (omega (arith, ap length numbers)))
