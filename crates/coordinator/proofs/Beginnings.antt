@@ -1,5 +1,5 @@
 -- The fresh snapshot of a job's shape is the one with which a run begins.
-use Rattle.std.proofs.Common.{◌≡◌, ℕ, sym, refl, ◌∙◌, ap, List, [], ◌∷◌, length, map}
+use Rattle.std.proofs.Common.{◌≡◌, ◌⊎◌, inl, inr, ℕ, ◌%◌, sym, refl, ◌∙◌, ap, subst, List, [], ◌∷◌, length, map}
 use Rattle.std.proofs.lemmas.List.{map-append, length-map}
 use Rattle.std.proofs.lemmas.Simd.{splat_is_map}
 use Rattle.value_order.specs.declared.TheConstants.{NOTHING}
@@ -11,7 +11,9 @@ use Rattle.token_cut.specs.Parts.{SnapshotParts}
 use Rattle.token_cut.specs.Shapes.{Starts}
 use Rattle.token_cut.specs.Shapes as shapes
 use Rattle.base_machine.specs.Machine.{system_of, fresh_part, fresh_snapshot}
-use Rattle.coordinator.specs.Shapes.{starts_in, shape_of, ShapesBeginRuns}
+use Rattle.base_machine.specs.Fitness.{IsInForm}
+use Rattle.grape_hub.specs.Theorems.{FreshIsAStart}
+use Rattle.coordinator.specs.Shapes.{starts_in, shape_of, ShapesBeginRuns, FormsAgree, EntriesMayBegin}
 
 part_begins : (job : Job) (i : ℕ) → shapes.fresh_part (starts_in job (fragment_of job i)) ≡ fresh_part (equations_of job) (piece_of job i)
 part_begins job i =
@@ -30,3 +32,7 @@ shapes_begin_runs job = λ t. record { epoch = 0; parts = parts_begin job (numbe
 -- what is made of the shape of a job begins its run
 pub begun_fresh : (job : Job) (shape : Starts) (start : SnapshotParts) → shape ≡ shape_of job → start ≡ shapes.fresh_snapshot shape → start ≡ fresh_snapshot (system_of job)
 begun_fresh job shape start same made = made ∙ (ap (λ (s : Starts). shapes.fresh_snapshot s) same ∙ shapes_begin_runs job)
+
+pub entries_may_begin : FreshIsAStart → ShapesBeginRuns → FormsAgree → EntriesMayBegin
+entries_may_begin fresh begins agree job is start (inl same) = subst (λ (s : SnapshotParts). IsInForm (system_of job) s) (sym (same ∙ begins job)) (fresh job is).0
+entries_may_begin fresh begins agree job is start (inr form) = ((agree job is (start.epoch % 2) start).0 form).1

@@ -38,7 +38,7 @@ stopped_first (Stop Disk) past = refl
 stopped_first (Stop Memory) past = refl
 stopped_first _ past = refl
 
-stopped_last : (journal : List Event) (e : Event) → is_stopped_by_disk (reverse (journal ++ e ∷ [])) ≡ is_disk e
+pub stopped_last : (journal : List Event) (e : Event) → is_stopped_by_disk (reverse (journal ++ e ∷ [])) ≡ is_disk e
 stopped_last journal e = ap (λ (es : List Event). is_stopped_by_disk es) (reverse-append journal (e ∷ [])) ∙ stopped_first e (reverse journal)
 
 -- after another event the disk didn't stop the run

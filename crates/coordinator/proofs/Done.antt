@@ -6,11 +6,9 @@ use Rattle.graph_core.proofs.Lawful.{lawful}
 use Rattle.graph_core.proofs.Cutting.{fragments_cut}
 use Rattle.grape_event.specs.declared.event.Event.{Event}
 use Rattle.grape_event.specs.declared.event.Event.TheVariants.{End}
-use Rattle.token_cut.specs.Parts.{SnapshotParts}
-use Rattle.base_machine.specs.Machine.{system_of, base_state_of}
-use Rattle.base_machine.specs.Fitness.{is_quiet, IsFit}
+use Rattle.base_machine.specs.Machine.{system_of}
+use Rattle.base_machine.specs.Fitness.{is_quiet}
 use Rattle.base_machine.specs.Theorems.{IsSound}
-use Rattle.base_machine.proofs.Beginning.{fresh_is_fit}
 use Rattle.base_machine.proofs.Kept.{fit_is_kept}
 use Rattle.base_machine.proofs.Quiet.{confluence_from}
 use Rattle.legal_journal.specs.BaseEvents.{base_of}
@@ -31,11 +29,10 @@ sound : (job : Job) → IsJob job → IsSound (system_of job)
 sound job is_job = record { lawful = lawful job.graph job.query is_job.graph; cut = fragments_cut job is_job }
 
 pub done_is_the_answer : EndIsQuiet → JournalsGrow → JournalRuns → DoneIsTheAnswer
-done_is_the_answer end_is_quiet journals_grow journal_runs job fragments story locals g is_job is_story ends are greatest i p v owned =
+done_is_the_answer end_is_quiet journals_grow journal_runs job fragments story locals g is_job is_story fit ends are greatest i p v owned =
     let sys = system_of job in
     let events = story.journal.events in
     let ws = (state_at_end sys story.start events).workers in
-    let fit : IsFit sys g (base_state_of story.start) = subst (λ (s : SnapshotParts). IsFit sys g (base_state_of s)) (sym is_story.start) (fresh_is_fit sys g (sound job is_job) greatest) in
     let quiet = done_is_quiet end_is_quiet journals_grow job story is_story ends in
     let run = journal_runs sys story.start events is_story.legal in
     ap (λ (vs : List ℕ). slice_index vs p) (same_values ws locals are.values i)

@@ -6,3 +6,11 @@ pub mod Turns
 pub mod Settled
 pub mod Done
 pub mod Seating
+mod Keeping
+pub mod Sizing
+pub mod Going
+pub mod Visits
+pub mod Ends
+pub mod Leaves
+pub mod Telling
+pub mod Finishing

@@ -16,11 +16,14 @@ use Rattle.grape_event.specs.declared.event.StopCause.{StopCause}
 use Rattle.grape_event.specs.declared.event.Event.TheVariants.{Take, Give, Stretch, Hold, Flag, Ask, Ack, Nack, Begin, Mark, Seal, Kept, End, Stop}
 use Rattle.pie_core.specs.Locals.{LocalValues}
 use Rattle.token_cut.specs.Parts.{SnapshotParts}
-use Rattle.base_machine.specs.Machine.{BaseState, Worker, worker_at, is_running, rests, batch_waits, no_worker, system_of, fresh_snapshot}
+use Rattle.base_machine.specs.Machine.{BaseState, Worker, worker_at, is_running, rests, batch_waits, no_worker, system_of}
 use Rattle.base_machine.specs.Fitness.{is_quiet}
 use Rattle.legal_journal.specs.Past.{has_ended}
 use Rattle.legal_journal.proofs.Probes.{not_running}
 use Rattle.legal_journal.specs.Legal.{IsLegal, state_at_end}
+use Rattle.legal_journal.specs.Cuts.{sealed_snapshots, epochs_kept}
+use Rattle.recovery.specs.Crashes.{kept_epochs}
+use Rattle.recovery.specs.declared.kept_at.KeptAt.{KeptAt}
 use Rattle.answer_text.specs.Assembled.{FitParts, values_at}
 use Rattle.grape_hub.specs.HubValues.{HubValues}
 use Rattle.grape_hub.specs.States.{machine, workers_of, IsHub}
@@ -34,6 +37,7 @@ use Rattle.grape_hub.proofs.Hubs.{workers_are}
 use Rattle.grape_hub.proofs.Ready.{piece_is}
 use Rattle.coordinator.specs.declared.story.Story.{Story}
 use Rattle.coordinator.specs.Runs.{IsStoryOf, AreLocalsOf, LastEvent, EndsBy}
+use Rattle.coordinator.specs.Endings.{IsStoryAt}
 
 -- stands for a fragment past the last
 abbrev no_lists : FragmentLists
@@ -108,22 +112,26 @@ values_of h locals calm have = all_values (workers_of h) locals calm have
 
 -- ---- the story
 
--- a story has a hub's start and journal
-pub record Tells (h : HubValues) (story : Story) : Type 0 where
+-- a story has a hub's start and journal, and this as kept
+pub record Tells (h : HubValues) (kept : List KeptAt) (story : Story) : Type 0 where
   pub start : story.start ≡ h.start
   pub journal : story.journal ≡ h.journal
-  pub kept : story.kept.items ≡ []
+  pub kept_here : story.kept.items ≡ kept
 
-pub story_of : (h : HubValues) (job : Job) (story : Story) → IsHub h → h.job ≡ job → h.start ≡ fresh_snapshot (system_of job) → Tells h story → IsStoryOf job story
-story_of h job story hub same fresh tells =
-    let legal =
-    subst (λ (s : SnapshotParts). IsLegal (machine h) s story.journal.events) (sym tells.start)
-    (subst (λ (j : JournalList). IsLegal (machine h) h.start j.events) (sym tells.journal) hub.legal) in
-    record { start = tells.start ∙ fresh; legal = subst (λ (j : Job). IsLegal (system_of j) story.start story.journal.events) same legal; kept = tells.kept }
+pub story_of : (h : HubValues) (job : Job) (kept : List KeptAt) (story : Story) → IsHub h → h.job ≡ job → (more : List ℕ) → kept_epochs kept ≡ epochs_kept h.journal.events ++ more → Tells h kept story → IsStoryOf job h.start story
+story_of h job kept story hub same more noted tells = record {
+  starts = tells.start;
+  legal = subst (λ (j : Job). IsLegal (system_of j) h.start story.journal.events) same (subst (λ (j : JournalList). IsLegal (machine h) h.start j.events) (sym tells.journal) hub.legal);
+  noted = (more, ap (λ (ks : List KeptAt). kept_epochs ks) tells.kept_here ∙ (noted ∙ ap (λ (j : JournalList). epochs_kept j.events ++ more) (sym tells.journal)));
+}
 
-pub locals_of : (h : HubValues) (job : Job) (parts : List FragmentLists) (story : Story) (locals : List LocalValues) → IsHub h → h.job ≡ job → parts ≡ fragments_of job → Tells h story → AllZip (λ (local : LocalValues) (w : Worker). local.values ≡ w.values) locals (workers_of h) → HaveSizes h locals →
+-- what the story sealed is what the hub did
+pub cuts_told : (h : HubValues) (job : Job) (kept : List KeptAt) (story : Story) → h.job ≡ job → Tells h kept story → IsStoryAt job h kept story
+cuts_told h job kept story same tells = record { cuts = λ t. sealed_snapshots (system_of (sym same t)) (tells.start t) (tells.journal t).events; kept_here = tells.kept_here }
+
+pub locals_of : (h : HubValues) (job : Job) (parts : List FragmentLists) (kept : List KeptAt) (story : Story) (locals : List LocalValues) → IsHub h → h.job ≡ job → parts ≡ fragments_of job → Tells h kept story → AllZip (λ (local : LocalValues) (w : Worker). local.values ≡ w.values) locals (workers_of h) → HaveSizes h locals →
     AreLocalsOf job parts story locals
-locals_of h job parts story locals hub same all tells values sizes =
+locals_of h job parts kept story locals hub same all tells values sizes =
     let here : parts ≡ fragments_of h.job = all ∙ ap (λ (j : Job). fragments_of j) (sym same) in
     let owned = subst (λ (ps : List FragmentLists). AllZip (λ (part : FragmentLists) (local : LocalValues). length local.before ≡ length part.owned) ps locals) (sym here) (owned_each h.job h.counters (numbers_below h.job.settings.fragments) locals sizes) in
     let at_end =

@@ -1,7 +1,8 @@
 -- What a turn of a run leaves at its hub.
 use Rattle.std.specs.Prelude.{◌≡◌, ℕ, ◌⊎◌, ⊤, Bool, false, MatchBool, None, reverse}
 use Rattle.grape_event.specs.declared.event.Event.{Event}
-use Rattle.grape_event.specs.declared.event.Event.TheVariants.{Give}
+use Rattle.grape_event.specs.declared.event.Event.TheVariants.{Give, Kept, Stop}
+use Rattle.grape_event.specs.declared.event.StopCause.{StopCause}
 use Rattle.legal_journal.specs.Past.{has_ended}
 use Rattle.legal_journal.specs.Choices.{duty_choice}
 use Rattle.lane_loop.specs.declared.served.Served.{Served}
@@ -23,7 +24,7 @@ HasNoDiskStop h = is_stopped_by_disk (reverse h.journal.events) ≡ false
 abbrev pub HasNoDuty : HubValues → Type 0
 HasNoDuty h = (has_ended (reverse h.journal.events) ≡ false) × (sealed_epoch (state_of h).past ≡ None) × (duty_choice (machine h) (state_of h) ≡ None)
 
--- What a duty in a run without snapshots leaves, where nothing is sealed: exactly the event that duty chose, and where there was no memory for it exactly a Stop.
+-- What a duty other than a Seal leaves: exactly the event that duty chose, and where there was no memory for it exactly a Stop.
 abbrev pub ServesDuty : Served → HubValues → HubValues → Type 0
 ServesDuty Did old new = (e : Event) × ChoosesDuty old (duty.Did e) new
 ServesDuty Idle old new = ChoosesDuty old duty.Nothing new
@@ -36,9 +37,22 @@ ServesLane old new =
     ((e : Event) × Chooses old 0 (next.Did e) new)
     ⊎ ((work : Work) × (taken : HubValues) × Chooses old 0 (next.Took work) taken × Appended taken (Give work.worker) new)
 
--- Where the run goes on exactly a duty was served, or where there was none exactly lane 0; where it doesn't, the journal had ended, or exactly a Stop for want of memory was appended.
+-- What lane 0's turn leaves, by whether the run goes on; where it doesn't, the journal had ended, or exactly a Stop for want of memory was appended.
+abbrev pub ServesOrStops : Bool → HubValues → HubValues → Type 0
+ServesOrStops goes_on old new = MatchBool goes_on (ServesLane old new) (StopsForMemory old new)
+
+-- Exactly the Seal that duty chose and its Kept.
+abbrev pub SealsAndKeeps : HubValues → HubValues → Type 0
+SealsAndKeeps old new = (epoch : ℕ) × (sealed : HubValues) × ChoosesDuty old (duty.Sealed epoch) sealed × Appended sealed (Kept epoch) new
+
+-- Exactly the Seal that duty chose and a Stop.
+abbrev pub SealsAndStops : HubValues → HubValues → Type 0
+SealsAndStops old new = (epoch : ℕ) × (cause : StopCause) × (sealed : HubValues) × ChoosesDuty old (duty.Sealed epoch) sealed × Appended sealed (Stop cause) new
+
+-- Where the run goes on exactly a duty was served, a Seal with its Kept, or where there was none exactly lane 0; where it doesn't, the journal had ended, exactly a Stop for want of memory was appended, or exactly a Seal and a Stop.
 abbrev pub GoesOn : Bool → HubValues → HubValues → Type 0
-GoesOn goes_on old new = MatchBool goes_on (ServesDuty Did old new ⊎ (HasNoDuty old × ServesLane old new)) (StopsForMemory old new)
+GoesOn goes_on old new =
+    MatchBool goes_on (ServesDuty Did old new ⊎ (SealsAndKeeps old new ⊎ (HasNoDuty old × ServesLane old new))) (StopsForMemory old new ⊎ SealsAndStops old new)
 
 -- ---- the coordinator's turn of lane 0
 

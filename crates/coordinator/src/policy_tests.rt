@@ -2,7 +2,6 @@
 
 ghost use Rattle.std.specs.Prelude.{IfOk};
 ghost use Rattle.graph_core.specs.Graphs.{IsJob};
-ghost use Rattle.graph_text.specs.Input.{IsBuilt};
 
 use crate::Ran;
 use crate::tests::{ack, check_run, flag, give, hold, job_of, ran, stretch, take};
@@ -17,8 +16,7 @@ use std::test::Fail;
 /// A job of three fragments with two vertices each, by a policy. Worker 2 sends to the workers 0 and 1, then 1 sends to
 /// 2, and then 2 to 1.
 fn echo(alloc: Global, policy: &str) -> Result<Job, TextFault>
-    ensures job { IfOk result IsJob }
-    ensures built { IfOk result IsBuilt }
+    ensures { IfOk result IsJob }
 {
     let mut reader = LineReader::new(alloc)?;
     reader.feed(policy.as_bytes())?;

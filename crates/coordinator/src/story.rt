@@ -1,5 +1,5 @@
-use crate::kept_at::KeptAt;
 use grape_event::Journal;
+use recovery::KeptAt;
 use token_cut::Snapshot;
 
 /// What happened in a run.
@@ -9,6 +9,7 @@ pub struct Story {
     pub start: Snapshot,
     /// Its events, the last of which is an End or a Stop.
     pub journal: Journal,
-    /// The snapshots that were kept, in the order of their Kepts. So far there are none.
+    /// The snapshots that were kept, in order. Each Kept of the journal has its entry, and where the journal ended before
+    /// a snapshot that was put could be noted in it, that one has an entry too.
     pub kept: Vec<KeptAt>,
 }

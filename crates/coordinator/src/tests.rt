@@ -1,11 +1,11 @@
 ghost use Rattle.std.specs.Prelude.{IfOk};
 ghost use Rattle.graph_core.specs.Graphs.{IsJob};
-ghost use Rattle.graph_text.specs.Input.{IsBuilt};
 
-use crate::{Ran, run_alone, shape_of};
+use crate::{KeptAt, Ran, begin_fresh, entries_may_begin, run_alone, shape_of};
 use delay_stretch::{Calm, Pacer, Scripted};
 use fragment_cut::fragment;
-use grape_event::{Event, Journal};
+use grape_disk::{Disk, MemDisk};
+use grape_event::{Event, Journal, StopCause};
 use graph_core::Job;
 use graph_text::{LineReader, TextFault};
 use std::alloc::Global;
@@ -15,22 +15,41 @@ use std::test::Fail;
 
 /// The job of a text.
 pub(crate) fn job_of(alloc: Global, text: &str) -> Result<Job, TextFault>
-    ensures job { IfOk result IsJob }
-    ensures built { IfOk result IsBuilt }
+    ensures { IfOk result IsJob }
 {
     let mut reader = LineReader::new(alloc)?;
     reader.feed(text.as_bytes())?;
     reader.finish()
 }
 
-/// Runs a job with these pacers.
+/// Any 32 bytes in the place of an input's digest.
+const DIGEST: [u8; 32] = [0xA5; 32];
+
+/// Runs a job with these pacers, from the beginning.
 pub(crate) fn ran<Q: Pacer>(alloc: Global, job: &Job, pacers: Vec<Q>) -> Result<Ran, TextFault>
-    requires job { IsJob job.now }
-    requires built { IsBuilt job.now }
+    requires { IsJob job.now }
 {
+    let mut disk = MemDisk::new(alloc, 4096, &[], Vec::new(alloc), None)?;
+    ran_on(alloc, job, pacers, &mut disk)
+}
+
+/// The same on this disk.
+fn ran_on<Q: Pacer>(
+    alloc: Global,
+    job: &Job,
+    pacers: Vec<Q>,
+    disk: &mut MemDisk,
+) -> Result<Ran, TextFault>
+    requires { IsJob job.now }
+{
+    entries_may_begin();
     let fragments = fragment(alloc, job)?;
     let shape = shape_of(alloc, job, &fragments)?;
-    Ok(run_alone(alloc, job, &fragments, &shape, pacers))
+    let snapshot = job.settings.snapshot;
+    let Ok(entry) = begin_fresh(alloc, &shape, &DIGEST, snapshot, disk) else {
+        return Err(TextFault::NoMemory);
+    };
+    Ok(run_alone(alloc, job, &fragments, &shape, entry, disk, pacers))
 }
 
 /// Stops where a journal has other events.
@@ -179,5 +198,66 @@ fn boxed_pacers_are_asked(rt: HostRuntime) -> Result<(), Fail> {
     pacers.push(Box::new(alloc, script)?)?;
     pacers.push(Box::new(alloc, Calm)?)?;
     check_run(&rt, &ran(alloc, &job, pacers)?, &stretched_events());
+    Ok(())
+}
+
+/// One vertex, which is the source, and a snapshot after each Take.
+fn lone() -> &'static str {
+    "query dist 7\nfragments 1\nlanes 1\nsnapshot 1\nv 7 0\n"
+}
+
+fn kept_events() -> [Event; 10] {
+    [
+        take(0),
+        give(0),
+        Event::Begin { epoch: 1 },
+        Event::Mark { worker: 0 },
+        Event::Seal { epoch: 1 },
+        Event::Kept { epoch: 1 },
+        flag(0),
+        Event::Ask,
+        ack(0),
+        Event::End,
+    ]
+}
+
+/// The snapshot of a Seal is put at once, and noted with how many calls of the disk there were.
+#[test]
+fn a_seal_is_kept(rt: HostRuntime) -> Result<(), Fail> {
+    let alloc = rt.alloc();
+    let job = job_of(alloc, lone())?;
+    let none: Vec<Calm> = Vec::new(alloc);
+    let mut disk = MemDisk::new(alloc, 4096, &[], Vec::new(alloc), None)?;
+    let Ran::Done { story, .. } = ran_on(alloc, &job, none, &mut disk)? else {
+        panic!(&rt; "the run isn't done")
+    };
+    check_events(&rt, &story.journal, &kept_events());
+    let moment = disk.calls();
+    assert_eq!(rt;
+        story.kept.as_slice(),
+        [KeptAt { epoch: 1, moment }].as_slice()
+    );
+    Ok(())
+}
+
+/// A put that fails, by whichever of its calls, stops the run for want of the disk right behind the Seal.
+#[test]
+fn a_failed_put_stops_the_run(rt: HostRuntime) -> Result<(), Fail> {
+    let alloc = rt.alloc();
+    let job = job_of(alloc, lone())?;
+    let mut stopped = 0u32;
+    for stop in 1..40 {
+        let none: Vec<Calm> = Vec::new(alloc);
+        let mut disk = MemDisk::new(alloc, 4096, &[], Vec::new(alloc), Some(stop))?;
+        let Ok(Ran::Stopped { cause, story }) = ran_on(alloc, &job, none, &mut disk) else {
+            continue;
+        };
+        stopped = stopped.saturating_add(1);
+        assert_eq!(rt; cause, StopCause::Disk);
+        assert_eq!(rt; story.journal.len(), 6);
+        assert_eq!(rt; story.journal.get(4), Some(Event::Seal { epoch: 1 }));
+        assert_eq!(rt; story.kept.len(), 0);
+    }
+    assert!(rt; stopped > 3);
     Ok(())
 }

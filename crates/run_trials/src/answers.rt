@@ -3,9 +3,10 @@
 ghost use Rattle.std.specs.Prelude.{◌≡◌};
 ghost use Rattle.graph_core.specs.Graphs.{IsJob};
 ghost use Rattle.graph_core.specs.Fragments.{fragments_of};
-ghost use Rattle.graph_text.specs.Input.{IsBuilt};
+ghost use Rattle.token_cut.specs.Parts.{SnapshotParts};
 ghost use Rattle.coordinator.specs.Runs.{HasRun};
 
+use crate::entering::entered;
 use answer_text::{Answer, assemble};
 use coordinator::{Ran, run_alone, shape_of};
 use delay_stretch::{Calm, Pacer};
@@ -24,7 +25,7 @@ pub(crate) fn answer_in(
 ) -> Result<Answer, TextFault>
     requires job { IsJob job.now }
     requires fragments { fragments.now ≡ fragments_of job.now }
-    requires ran { HasRun job.now fragments.now ran }
+    requires ran { (start : SnapshotParts) × HasRun job.now fragments.now start ran }
 {
     match ran {
         Ran::Done {
@@ -41,19 +42,20 @@ pub(crate) fn answer_of<Q: Pacer>(
     job: &Job,
     pacers: Vec<Q>,
 ) -> Result<Answer, TextFault>
-    requires job { IsJob job.now }
-    requires built { IsBuilt job.now }
+    requires { IsJob job.now }
 {
     let fragments = fragment(alloc, job)?;
     let shape = shape_of(alloc, job, &fragments)?;
-    let ran = run_alone(alloc, job, &fragments, &shape, pacers);
+    let (entry, mut disk) = entered(alloc, job, &shape)?;
+    let ran = run_alone(
+        alloc, job, &fragments, &shape, entry, &mut disk, pacers,
+    );
     answer_in(alloc, job, &fragments, ran)
 }
 
 /// The answer of a job, run without pacers.
 pub(crate) fn answer_calmly(alloc: Global, job: &Job) -> Result<Answer, TextFault>
-    requires job { IsJob job.now }
-    requires built { IsBuilt job.now }
+    requires { IsJob job.now }
 {
     let none: Vec<Calm> = Vec::new(alloc);
     answer_of(alloc, job, none)

@@ -3,8 +3,8 @@
 ghost use Rattle.std.specs.Prelude.{◌≡◌};
 ghost use Rattle.graph_core.specs.Graphs.{IsJob};
 ghost use Rattle.graph_core.specs.Fragments.{fragments_of};
-ghost use Rattle.graph_text.specs.Input.{IsBuilt};
 
+use crate::entering::entered;
 use crate::inputs::{border, chain, cycle, job_of, labelled, query_table, star};
 use crate::pacers::seeds;
 use coordinator::{Ran, run_alone, shape_of};
@@ -21,11 +21,12 @@ use value_order::{Order, height};
 /// The journal of a run of the job, with a pacer for each worker.
 fn journal_of(alloc: Global, job: &Job, fragments: &[Fragment]) -> Result<Journal, NoMemory>
     requires job { IsJob job.now }
-    requires built { IsBuilt job.now }
     requires fragments { fragments.now ≡ fragments_of job.now }
 {
     let shape = shape_of(alloc, job, fragments)?;
-    match run_alone(alloc, job, fragments, &shape, seeds(alloc, 64)?) {
+    let (entry, mut disk) = entered(alloc, job, &shape)?;
+    let pacers = seeds(alloc, 64)?;
+    match run_alone(alloc, job, fragments, &shape, entry, &mut disk, pacers) {
         Ran::Done {
             locals: _locals,
             story,

@@ -2,7 +2,6 @@
 
 ghost use Rattle.std.specs.Prelude.{IfOk};
 ghost use Rattle.graph_core.specs.Graphs.{IsJob};
-ghost use Rattle.graph_text.specs.Input.{IsBuilt};
 
 use grape_port::NoMemory;
 use graph_core::Job;
@@ -21,8 +20,7 @@ pub(crate) fn job_of(
     query: &str,
     lines: &str,
 ) -> Result<Job, TextFault>
-    ensures job { IfOk result IsJob }
-    ensures built { IfOk result IsBuilt }
+    ensures { IfOk result IsJob }
 {
     let mut reader = LineReader::new(alloc)?;
     reader.feed(settings.as_bytes())?;

@@ -1,9 +1,9 @@
 //! Whatever the number of lanes, a job has the values that one lane gives.
 
 ghost use Rattle.graph_core.specs.Graphs.{IsJob};
-ghost use Rattle.graph_text.specs.Input.{IsBuilt};
 
 use crate::answers::{answer_calmly, answer_in, check_rows};
+use crate::entering::entered;
 use crate::inputs::{drawn, job_of, query_table};
 use crate::pacers::seeds;
 use answer_text::Answer;
@@ -26,13 +26,15 @@ fn answer_on_lanes<R: Threads + Wait + Sync>(
     alloc: Global,
     job: &Job,
 ) -> Result<Answer, TextFault>
-    requires job { IsJob job.now }
-    requires built { IsBuilt job.now }
+    requires { IsJob job.now }
 {
     let fragments = fragment(alloc, job)?;
     let shape = shape_of(alloc, job, &fragments)?;
     let pacers = seeds(alloc, 4)?;
-    let ran = run_lanes(rt, alloc, job, &fragments, &shape, pacers, &OpenGate);
+    let (entry, mut disk) = entered(alloc, job, &shape)?;
+    let ran = run_lanes(
+        rt, alloc, job, &fragments, &shape, entry, &mut disk, pacers, &OpenGate,
+    );
     answer_in(alloc, job, &fragments, ran)
 }
 

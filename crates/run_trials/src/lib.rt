@@ -11,6 +11,8 @@ mod bounded;
 #[cfg(test)]
 mod driver;
 #[cfg(test)]
+mod entering;
+#[cfg(test)]
 mod inputs;
 #[cfg(test)]
 mod lanes_agree;

@@ -1,7 +1,6 @@
 //! A job has one answer, whatever the policy, the cut, the number of fragments and the pacers.
 
 ghost use Rattle.graph_core.specs.Graphs.{IsJob};
-ghost use Rattle.graph_text.specs.Input.{IsBuilt};
 
 use crate::answers::{answer_calmly, answer_of, check_rows};
 use crate::inputs::{cycle, grid, job_of, labelled, query_table, star};
@@ -47,8 +46,7 @@ fn detour_answer() -> &'static [u8] {
 
 /// Stops where a job has another answer with some pacers.
 fn check_pacers(rt: &impl Abort, alloc: Global, job: &Job, want: &Answer) -> Result<(), TextFault>
-    requires job { IsJob job.now }
-    requires built { IsBuilt job.now }
+    requires { IsJob job.now }
 {
     check_rows(rt, &answer_calmly(alloc, job)?, want);
     check_rows(rt, &answer_of(alloc, job, seeds(alloc, 7)?)?, want);

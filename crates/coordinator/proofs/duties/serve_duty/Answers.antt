@@ -1,56 +1,47 @@
-use Rattle.std.proofs.Common.{inl, inr, refl, ◌∙◌, ap, subst, List, ℕ}
-use Rattle.legal_journal.proofs.Choosing.{duties_are_exact}
+use Rattle.std.proofs.Common.{◌∙◌, refl, sym, ap, subst}
+use Rattle.graph_core.specs.declared.job.Job.{Job}
 use Rattle.grape_hub.specs.declared.work.Duty.{Duty}
-use Rattle.grape_hub.specs.States.{machine, state_of}
-use Rattle.grape_hub.specs.Calls.{ChoosesDuty}
-use Rattle.grape_hub.specs.Notes.{own_in}
+use Rattle.grape_hub.specs.declared.work.Duty.TheVariants as duty
+use Rattle.grape_hub.specs.Calls.{ChoosesDuty, WritesSealed}
 use Rattle.lane_loop.proofs.Steps.{stops_after}
-use Rattle.coordinator.proofs.Causes.{duty_no_disk, still_after_event, still_where_unchanged, still_where_same}
+use Rattle.coordinator.specs.Keeping.{HasSizesFor}
+use Rattle.coordinator.proofs.Visits.{told, or_stops, duty_leaves}
 use Rattle.coordinator.proofs.duties.serve_duty.Goals as goal
 
-pub returns-in-Did-clause-still : goal.returns-in-Did-clause-still
-returns-in-Did-clause-still g c still =
-    let old = c.args.hub.now in
-    let new = c.duty.new.self in
-    elim c.in-Did.is [
-      | inl did ↦
-          let chosen = subst (λ (r : Duty). ChoosesDuty old.hub r new.hub) did.1 c.duty.ensures.chosen in
-          still_after_event old new did.0 chosen.2 chosen.1 (duty_no_disk did.0 ((duties_are_exact (machine old.hub) (state_of old.hub)).0 did.0 chosen.0).1) still
-      | inr sealed ↦
-          let chosen = subst (λ (r : Duty). ChoosesDuty old.hub r new.hub) sealed.1 c.duty.ensures.chosen in
-          absurd ((c.nothing_is_sealed.ensures old.hub c.stands.ensures.hub.0 c.requires.snapshot).1 sealed.0 chosen.0)
-    ]
+pub duty-requires-clause-kept : goal.duty-requires-clause-kept
+duty-requires-clause-kept g c =
+    let note = c.requires.note in
+    (told c.notes_tell.ensures.begin c.notes_tell.ensures.cuts c.args.hub.now c.stands.ensures.hub c.args.job.now note.0 _ _ _ c.notes_tell.ensures.grounds note.2).2.waits
 
-pub returns-in-Nothing-clause-still : goal.returns-in-Nothing-clause-still
-returns-in-Nothing-clause-still g c still =
-    let chosen = subst (λ (r : Duty). ChoosesDuty c.args.hub.now.hub r c.duty.new.self.hub) c.in-Nothing.is c.duty.ensures.chosen in
-    still_where_same c.args.hub.now c.duty.new.self chosen.1 still
-
-pub returns-in-Ended-clause-still : goal.returns-in-Ended-clause-still
-returns-in-Ended-clause-still g c still =
-    let chosen = subst (λ (r : Duty). ChoosesDuty c.args.hub.now.hub r c.duty.new.self.hub) c.in-Ended.is c.duty.ensures.chosen in
-    still_where_same c.args.hub.now c.duty.new.self chosen.0 still
-
-pub returns-in-NoMemory-clause-still : goal.returns-in-NoMemory-clause-still
-returns-in-NoMemory-clause-still g c still =
-    let same = subst (λ (r : Duty). ChoosesDuty c.args.hub.now.hub r c.duty.new.self.hub) c.in-NoMemory.is c.duty.ensures.chosen in
-    ap (λ (ns : List ℕ). own_in ns) (c.stop.ensures.memory refl c.args.hub.now.hub.job.settings.lanes) ∙ still_where_unchanged c.args.hub.now c.duty.new.self same still
+pub duty-requires-clause-sizes : goal.duty-requires-clause-sizes
+duty-requires-clause-sizes g c =
+    let note = c.requires.note in
+    let t = told c.notes_tell.ensures.begin c.notes_tell.ensures.cuts c.args.hub.now c.stands.ensures.hub c.args.job.now note.0 _ _ _ c.notes_tell.ensures.grounds note.2 in
+    subst (λ (j : Job). HasSizesFor j c.args.into.now) (sym t.0) c.requires.sizes
 
 pub returns-in-NoMemory-clause-others : goal.returns-in-NoMemory-clause-others
-returns-in-NoMemory-clause-others g c k ne = c.stop.ensures.memory refl k ∙ c.duty.ensures.others k ne
+returns-in-NoMemory-clause-others g c k differ =
+    let note = c.requires.note in
+    let t = told c.notes_tell.ensures.begin c.notes_tell.ensures.cuts c.args.hub.now c.stands.ensures.hub c.args.job.now note.0 _ _ _ c.notes_tell.ensures.grounds note.2 in
+    c.stop.ensures.memory refl k ∙ c.duty.ensures.others k (λ e. differ (e ∙ ap (λ (j : Job). j.settings.lanes) t.0))
 
-pub returns-in-Did-clause-served : goal.returns-in-Did-clause-served
-returns-in-Did-clause-served g c =
+pub returns-in-NoMemory-clause-duty : goal.returns-in-NoMemory-clause-duty
+returns-in-NoMemory-clause-duty g c =
     let old = c.args.hub.now in
-    let new = c.duty.new.self in
-    elim c.in-Did.is [
-      | inl did ↦ (did.0, subst (λ (r : Duty). ChoosesDuty old.hub r new.hub) did.1 c.duty.ensures.chosen)
-      | inr sealed ↦
-          let chosen = subst (λ (r : Duty). ChoosesDuty old.hub r new.hub) sealed.1 c.duty.ensures.chosen in
-          absurd ((c.nothing_is_sealed.ensures old.hub c.stands.ensures.hub.0 c.requires.snapshot).1 sealed.0 chosen.0)
-    ]
+    let same = subst (λ (r : Duty). ChoosesDuty old.hub r c.duty.new.self.hub) c.in-NoMemory.is c.duty.ensures.chosen in
+    let written = subst (λ (r : Duty). WritesSealed r c.duty.new.self.hub c.args.into.now c.duty.new.into) c.in-NoMemory.is c.duty.ensures.written in
+    duty_leaves c.notes_tell.ensures.grounds c.notes_tell.ensures.begin c.notes_tell.ensures.cuts c.seals_may_be_kept.ensures c.nothing_is_sealed.ensures old c.stop.new.self c.stands.ensures.hub c.stop.ensures.hub c.args.job.now
+    c.args.into.now c.duty.new.into duty.NoMemory (stops_after old.hub c.duty.new.self.hub c.stop.new.self.hub same c.stop.ensures.stopped) written
 
-pub returns-in-NoMemory-clause-served : goal.returns-in-NoMemory-clause-served
-returns-in-NoMemory-clause-served g c =
-    let same = subst (λ (r : Duty). ChoosesDuty c.args.hub.now.hub r c.duty.new.self.hub) c.in-NoMemory.is c.duty.ensures.chosen in
-    stops_after c.args.hub.now.hub c.duty.new.self.hub c.stop.new.self.hub same c.stop.ensures.stopped
+pub returns-in_default : goal.returns-in_default
+returns-in_default g c =
+    let note = c.requires.note in
+    let old = c.args.hub.now in
+    let t = told c.notes_tell.ensures.begin c.notes_tell.ensures.cuts old c.stands.ensures.hub c.args.job.now note.0 _ _ _ c.notes_tell.ensures.grounds note.2 in
+    let served = or_stops old.hub c.duty.new.self.hub c.duty.result c.in_default.not-NoMemory c.duty.ensures.chosen in
+    record {
+      others = λ k differ. c.duty.ensures.others k (λ e. differ (e ∙ ap (λ (j : Job). j.settings.lanes) t.0));
+      served = served;
+      duty = duty_leaves c.notes_tell.ensures.grounds c.notes_tell.ensures.begin c.notes_tell.ensures.cuts c.seals_may_be_kept.ensures c.nothing_is_sealed.ensures old c.duty.new.self c.stands.ensures.hub c.duty.ensures.hub c.args.job.now
+          c.args.into.now c.duty.new.into c.duty.result served c.duty.ensures.written;
+    }

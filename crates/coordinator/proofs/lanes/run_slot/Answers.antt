@@ -1,5 +1,4 @@
 use Rattle.std.proofs.Common.{rules, ◌≡◌, subst, sym, ◌∙◌, Option}
-use Rattle.base_machine.specs.Machine.{system_of, fresh_snapshot}
 use Rattle.noted_lock.specs.declared.seat.LockSeat.{LockSeat}
 use Rattle.noted_lock.specs.Sights.{lock_id}
 use Rattle.coordinator.specs.Seats.{HoldsSeat}
@@ -9,4 +8,4 @@ pub lane-seat-requires-clause-job : goal.lane-seat-requires-clause-job
 lane-seat-requires-clause-job g c =
     let taken : c.take.result ≡ c.args.slot.now = search rules in
     let seat = subst (λ (o : Option LockSeat). HoldsSeat (lock_id c.args.lock.now) c.args.job.now c.args.number o) (sym taken ∙ c.in-Some.is) c.requires.slot in
-    (c.args.job.now, fresh_snapshot (system_of c.args.job.now), seat.ground, c.requires.fragments, c.requires.program, c.requires.lane)
+    (c.args.job.now, seat.ground.0, seat.ground.1, c.requires.fragments, c.requires.program, c.requires.lane)

@@ -10,8 +10,8 @@ use Rattle.grape_hub.specs.LanedHub.{lanes_after_answer}
 use Rattle.grape_hub.specs.Desks.{has_taken}
 use Rattle.grape_hub.specs.Calls.{Chooses, ReadyWhereTook}
 use Rattle.grape_hub.specs.Theorems.{IsCalm}
-use Rattle.coordinator.specs.Turns.{GoesOn, HasNoDiskStop}
-use Rattle.coordinator.proofs.Causes.{disk_after, disk_after_lane}
+use Rattle.coordinator.specs.Turns.{ServesOrStops}
+use Rattle.lane_loop.proofs.Steps.{stops_after}
 use Rattle.lane_loop.proofs.Parts.{worker_has_part, part_of_worker, evaluates, solves}
 use Rattle.coordinator.proofs.Turns.{took_is_out, stopped_unchanged, given_after_take, ended_stays}
 use Rattle.coordinator.proofs.turn.serve.Goals as goal
@@ -74,20 +74,14 @@ returns-in-Took-clause-calm g c =
     c.turns_are_calm.ensures.turn c.args.hub.now.hub c.next.new.self.hub c.give.new.self.hub c.in-Took.work.worker 0 c.requires.hub.0 c.requires.calm chosen.1 c.next.ensures.hub.0
     (given_after_take c.args.hub.now.hub c.next.new.self.hub c.give.new.self.hub c.in-Took.work.worker 0 c.in-Took.work.worker chosen.1 c.give.ensures.given) c.give.ensures.hub.0
 
-pub returns-in-Took-clause-disk : goal.returns-in-Took-clause-disk
-returns-in-Took-clause-disk g c =
-    let chosen = subst (λ (r : Next). Chooses c.args.hub.now.hub 0 r c.next.new.self.hub) c.in-Took.is c.next.ensures.chosen in
-    disk_after c.next.new.self.hub c.give.new.self.hub (Give c.in-Took.work.worker)
-    (given_after_take c.args.hub.now.hub c.next.new.self.hub c.give.new.self.hub c.in-Took.work.worker 0 c.in-Took.work.worker chosen.1 c.give.ensures.given) refl
-
 pub returns-in-Took-clause-goes_on : goal.returns-in-Took-clause-goes_on
 returns-in-Took-clause-goes_on g c =
     let chosen = subst (λ (r : Next). Chooses c.args.hub.now.hub 0 r c.next.new.self.hub) c.in-Took.is c.next.ensures.chosen in
     let given = given_after_take c.args.hub.now.hub c.next.new.self.hub c.give.new.self.hub c.in-Took.work.worker 0 c.in-Took.work.worker chosen.1 c.give.ensures.given in
-    inr (c.requires.duty, inr (c.in-Took.work, c.next.new.self.hub, chosen, given))
+    inr (c.in-Took.work, c.next.new.self.hub, chosen, given)
 
 pub returns-in-Did-clause-goes_on : goal.returns-in-Did-clause-goes_on
-returns-in-Did-clause-goes_on g c = inr (c.requires.duty, inl (c.in-Did.field-0, subst (λ (r : Next). Chooses c.args.hub.now.hub 0 r c.next.new.self.hub) c.in-Did.is c.next.ensures.chosen))
+returns-in-Did-clause-goes_on g c = inl (c.in-Did.field-0, subst (λ (r : Next). Chooses c.args.hub.now.hub 0 r c.next.new.self.hub) c.in-Did.is c.next.ensures.chosen)
 
 pub returns-in-Ended-clause-goes_on : goal.returns-in-Ended-clause-goes_on
 returns-in-Ended-clause-goes_on g c =
@@ -99,25 +93,17 @@ returns-in-Did-clause-calm g c =
     let chosen = subst (λ (r : Next). Chooses c.args.hub.now.hub 0 r c.next.new.self.hub) c.in-Did.is c.next.ensures.chosen in
     c.turns_are_calm.ensures.other c.args.hub.now.hub c.next.new.self.hub c.in-Did.field-0 c.requires.hub.0 c.requires.calm chosen.1 chosen.2 c.next.ensures.hub.0
 
-pub returns-in-Did-clause-disk : goal.returns-in-Did-clause-disk
-returns-in-Did-clause-disk g c =
-    disk_after_lane c.args.hub.now.hub c.next.new.self.hub 0 c.in-Did.field-0 (subst (λ (r : Next). Chooses c.args.hub.now.hub 0 r c.next.new.self.hub) c.in-Did.is c.next.ensures.chosen)
-
 pub returns-in-Ended-clause-calm : goal.returns-in-Ended-clause-calm
 returns-in-Ended-clause-calm g c =
     let chosen = subst (λ (r : Next). Chooses c.args.hub.now.hub 0 r c.next.new.self.hub) c.in-Ended.is c.next.ensures.chosen in
     subst (λ (h : HubValues). IsCalm h) (sym chosen.0) c.requires.calm
 
-pub returns-in-Ended-clause-disk : goal.returns-in-Ended-clause-disk
-returns-in-Ended-clause-disk g c =
-    let chosen = subst (λ (r : Next). Chooses c.args.hub.now.hub 0 r c.next.new.self.hub) c.in-Ended.is c.next.ensures.chosen in
-    subst (λ (h : HubValues). HasNoDiskStop h) (sym chosen.0) c.requires.disk
-
 pub returns-in-NoMemory : goal.returns-in-NoMemory
 returns-in-NoMemory g c =
-    let same = subst (λ (r : Next). Chooses c.args.hub.now.hub 0 r c.next.new.self.hub) c.in-NoMemory.is c.next.ensures.chosen in
-    let s = stopped_unchanged c.turns_are_calm.ensures.other c.args.hub.now.hub c.next.new.self.hub c.give_up.new.hub.hub c.requires.calm c.requires.disk same c.next.ensures.hub.0 c.give_up.ensures.stopped c.give_up.ensures.hub.0 in
-    record { same = (s.job, s.counters, s.start); hub = c.give_up.ensures.hub; calm = s.calm; disk = s.disk; goes_on = subst (λ b. GoesOn b c.args.hub.now.hub c.give_up.new.hub.hub) (sym c.give_up.ensures.stays) s.stopped }
+    let old = c.args.hub.now.hub in
+    let same = subst (λ (r : Next). Chooses old 0 r c.next.new.self.hub) c.in-NoMemory.is c.next.ensures.chosen in
+    let s = stopped_unchanged c.turns_are_calm.ensures.other old c.next.new.self.hub c.give_up.new.hub.hub c.requires.calm same c.next.ensures.hub.0 c.give_up.ensures.stopped c.give_up.ensures.hub.0 in
+    record { same = s.same; hub = c.give_up.ensures.hub; calm = s.calm; goes_on = subst (λ b. ServesOrStops b old c.give_up.new.hub.hub) (sym c.give_up.ensures.stays) (stops_after old c.next.new.self.hub c.give_up.new.hub.hub same c.give_up.ensures.stopped) }
 
 pub unreachable-requires : goal.unreachable-requires
 unreachable-requires g c =
