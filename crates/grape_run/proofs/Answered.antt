@@ -1,5 +1,5 @@
 -- The values of a run that is done are the answer.
-use Rattle.std.proofs.Common.{ℕ, sym, ◌∙◌, ap, subst, List, ◌++◌, Option, Some, None, Ok}
+use Rattle.std.proofs.Common.{◌≡◌, ℕ, sym, ◌∙◌, ap, subst, List, [], ◌++◌, Option, Some, None, Ok}
 use Rattle.std.proofs.lemmas.List.{append-nil}
 use Rattle.graph_core.specs.declared.job.Job.{Job}
 use Rattle.graph_core.specs.Graphs.{IsJob}
@@ -15,8 +15,9 @@ use Rattle.answer_text.specs.AnswerTable.{AnswerTable}
 use Rattle.answer_text.specs.AnswerText.{answer_text, kind_of, IsAnswerText}
 use Rattle.answer_text.specs.Assembled.{IsAssembled}
 use Rattle.grape_run.specs.Answered.{AreGreatest}
-use Rattle.grape_run.specs.Runs.{ReadsJob, IsInputOf}
-use Rattle.grape_run.specs.Commands.{IsAskedFor}
+use Rattle.grape_run.specs.Runs.{ReadsInput, IsInputOf}
+use Rattle.grape_run.specs.Commands.{digest_of, IsDigestOf, IsAskedFor}
+use Rattle.grape_run.specs.declared.input.JobText.{JobText}
 
 pub assembled_is_answer : (job : Job) (locals : List LocalValues) (table : AnswerTable) → IsJob job → AreGreatest job locals → IsAssembled job locals table → IsAnswerText job (answer_text table.kind table.rows)
 assembled_is_answer job locals table h greatest made =
@@ -30,10 +31,18 @@ assembled_is_answer job locals table h greatest made =
       spelled = ap (λ k. answer_text k table.rows) made.kind ∙ ap (λ r. answer_text (kind_of job.query) r) made.rows;
     }
 
-is_input : (told after : Option (List ℕ)) (job : Job) → ReadsJob told after (Ok job) → IsInputOf told job
-is_input None after job h = tt
-is_input (Some text) after job h = ap input_of (h.2 ∙ ap (λ r. h.0 ++ r) h.4.0 ∙ append-nil h.0) ∙ h.4.1
+-- all of the text was read
+whole : (text read rest : List ℕ) → text ≡ read ++ rest → rest ≡ [] → text ≡ read
+whole text read rest same none = same ∙ ap (λ r. read ++ r) none ∙ append-nil read
 
--- the job that was read was asked for
-pub asked_for : (told after : Option (List ℕ)) (job : Job) → ReadsJob told after (Ok job) → IsJob job → IsAskedFor told job
-asked_for told after job read within = record { within = within; is_input = is_input told after job read }
+is_input : (told after : Option (List ℕ)) (text : JobText) → ReadsInput told after (Ok text) → IsInputOf told text.job
+is_input None after text h = tt
+is_input (Some told) after text h = ap input_of (whole told h.0 h.1 h.2 h.4.0) ∙ h.4.1
+
+is_digest : (told after : Option (List ℕ)) (text : JobText) → ReadsInput told after (Ok text) → IsDigestOf told (digest_of text.bytes.items)
+is_digest None after text h = tt
+is_digest (Some told) after text h = ap digest_of (h.4.2 ∙ sym (whole told h.0 h.1 h.2 h.4.0))
+
+-- the job that was read was asked for, and the digest of its bytes
+pub asked_for : (told after : Option (List ℕ)) (text : JobText) → ReadsInput told after (Ok text) → IsJob text.job → IsAskedFor told text.job (digest_of text.bytes.items)
+asked_for told after text read within = record { within = within; is_input = is_input told after text read; is_digest = is_digest told after text read }

@@ -1,5 +1,5 @@
 -- The line that a run writes where it isn't done, and the words that it takes.
-use Rattle.std.specs.Prelude.{ℕ, List, [], ◌∷◌, ◌++◌, Option, Some, None, codes, decimal, bytes_eq, if◌then◌else◌}
+use Rattle.std.specs.Prelude.{ℕ, ◌+◌, ◌/◌, ◌%◌, List, [], ◌∷◌, ◌++◌, Option, Some, None, codes, decimal, bytes_eq, nat_lt, if◌then◌else◌}
 use Rattle.graph_text.specs.declared.fault.Why.{Why}
 use Rattle.graph_text.specs.declared.fault.Why.TheVariants as causes
 use Rattle.grape_run.specs.declared.status.Status.{Status}
@@ -10,7 +10,7 @@ use Rattle.grape_run.specs.declared.words.Mode.TheVariants as mode
 -- what the words ask for, if they ask for anything
 abbrev pub mode_of : List (List ℕ) → Option Mode
 mode_of [] = None
-mode_of (word ∷ []) = if bytes_eq word (codes "run") then Some mode.Run else None
+mode_of (word ∷ []) = if bytes_eq word (codes "run") then Some mode.Run else if bytes_eq word (codes "resume") then Some mode.Resume else None
 mode_of (word ∷ next ∷ words) = None
 
 -- why a line is bad, as a word
@@ -29,6 +29,24 @@ why_text causes.TooLong = codes "too-long"
 abbrev pub bad_line_text : ℕ → Why → List ℕ
 bad_line_text line why = codes "grape: input line " ++ decimal line ++ codes ": " ++ why_text why ++ codes "\n"
 
+-- a number below 16 as a digit
+abbrev pub hex_digit : ℕ → ℕ
+hex_digit n = if nat_lt n 10 then 48 + n else 87 + n
+
+-- each byte as two digits
+abbrev pub hex : List ℕ → List ℕ
+hex [] = []
+hex (byte ∷ bytes) = hex_digit (byte / 16) ∷ hex_digit (byte % 16) ∷ hex bytes
+
+abbrev pub state_there_text : ℕ → List ℕ
+state_there_text size = codes "grape: state file has " ++ decimal size ++ codes " bytes\n"
+
+abbrev pub other_job_text : List ℕ → List ℕ → List ℕ
+other_job_text kept here = codes "grape: state of another job: " ++ hex kept ++ codes " not " ++ hex here ++ codes "\n"
+
+abbrev pub bad_state_text : ℕ → List ℕ
+bad_state_text place = codes "grape: state damaged at " ++ decimal place ++ codes "\n"
+
 -- the line of a status, with its line feed; a run that is done writes none
 abbrev pub note_text : Status → List ℕ
 note_text status.Done = []
@@ -36,6 +54,10 @@ note_text status.BadWords = codes "grape: usage: run, resume, or demo VERTICES N
 note_text (status.BadInput line why) = bad_line_text line why
 note_text status.ReadFault = codes "grape: read fault\n"
 note_text status.WriteFault = codes "grape: write fault\n"
+note_text status.DiskFault = codes "grape: disk fault\n"
+note_text (status.StateThere size) = state_there_text size
+note_text (status.OtherJob kept here) = other_job_text kept here
+note_text (status.BadState place) = bad_state_text place
 note_text status.NoMemory = codes "grape: out of memory\n"
 
 -- the exit number of a status
@@ -45,4 +67,8 @@ code_of status.BadWords = 2
 code_of (status.BadInput line why) = 3
 code_of status.ReadFault = 4
 code_of status.WriteFault = 5
+code_of status.DiskFault = 6
+code_of (status.StateThere size) = 7
+code_of (status.OtherJob kept here) = 8
+code_of (status.BadState place) = 9
 code_of status.NoMemory = 10

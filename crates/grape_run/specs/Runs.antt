@@ -4,6 +4,7 @@ use Rattle.grape_port.specs.Ports.{Rose, Appends, AppendsFront}
 use Rattle.graph_core.specs.declared.job.Job.{Job}
 use Rattle.graph_text.specs.Input.{BadLine, bad, input_of, shown_of}
 use Rattle.graph_text.specs.declared.fault.TextFault.TheVariants as text_faults
+use Rattle.grape_run.specs.declared.input.JobText.{JobText}
 use Rattle.grape_run.specs.declared.input.InputFault.{InputFault}
 use Rattle.grape_run.specs.declared.input.InputFault.TheVariants as faults
 use Rattle.grape_run.specs.declared.status.Status.{Status}
@@ -20,6 +21,10 @@ FitsRead status.BadWords read rest = read ≡ []
 FitsRead (status.BadInput line why) read rest = (shown_of read ≡ Some (bad line why)) ⊎ ((rest ≡ []) × (input_of read ≡ Err (bad line why)))
 FitsRead status.ReadFault read rest = shown_of read ≡ None
 FitsRead status.WriteFault read rest = IsJobText read rest
+FitsRead status.DiskFault read rest = IsJobText read rest
+FitsRead (status.StateThere size) read rest = IsJobText read rest
+FitsRead (status.OtherJob kept here) read rest = IsJobText read rest
+FitsRead (status.BadState place) read rest = IsJobText read rest
 FitsRead status.NoMemory read rest = ⊤
 
 -- a source was read, up to some place, by a run with this status
@@ -32,15 +37,28 @@ abbrev pub IsInputOf : Option (List ℕ) → Job → Type 0
 IsInputOf None job = ⊤
 IsInputOf (Some text) job = input_of text ≡ Ok job
 
+-- the state file was refused
+abbrev pub RefusesState : Status → Type 0
+RefusesState (status.StateThere size) = ⊤
+RefusesState (status.OtherJob kept here) = ⊤
+RefusesState (status.BadState place) = ⊤
+RefusesState _ = ⊥
+
+-- the run was done, and its answer written or its writing failed
+abbrev pub HasAnswered : Status → Type 0
+HasAnswered status.Done = ⊤
+HasAnswered status.WriteFault = ⊤
+HasAnswered s = ⊥
+
 -- a run answers neither of the statuses after which something is written
 abbrev pub IsSilent : Status → Type 0
 IsSilent status.Done = ⊥
 IsSilent status.WriteFault = ⊥
 IsSilent s = ⊤
 
--- An input is answered, and another text is refused by its first bad line, unless memory ran out.
+-- An input is answered, another text is refused by its first bad line, and a state file is refused where it may be, unless memory ran out.
 abbrev pub EndsAs : Status → Result Job BadLine → Type 0
-EndsAs s (Ok job) = (s ≡ status.Done) ⊎ (s ≡ status.NoMemory)
+EndsAs s (Ok job) = (s ≡ status.Done) ⊎ ((s ≡ status.NoMemory) ⊎ RefusesState s)
 EndsAs s (Err first) = (s ≡ status.BadInput first.line first.why) ⊎ (s ≡ status.NoMemory)
 
 -- the status of a run whose input was not read as a job
@@ -54,11 +72,11 @@ abbrev pub AppendsUnlessFault : Option (List ℕ) → List ℕ → Option (List 
 AppendsUnlessFault before text after faults_before faults_after =
     Appends before text after ⊎ (Rose faults_before faults_after × AppendsFront before text after)
 
--- what reading a job gave, where the source told its text: all of it is that job's, or the fault's status says what was read
-abbrev pub FitsText : Result Job InputFault → List ℕ → List ℕ → Type 0
-FitsText (Ok job) read rest = (rest ≡ []) × (input_of read ≡ Ok job)
+-- what reading an input gave, where the source told its text: all of it is that job's and was kept, or the fault's status says what was read
+abbrev pub FitsText : Result JobText InputFault → List ℕ → List ℕ → Type 0
+FitsText (Ok input) read rest = (rest ≡ []) × (input_of read ≡ Ok input.job) × (input.bytes.items ≡ read)
 FitsText (Err fault) read rest = FitsRead (status_of fault) read rest
 
-abbrev pub ReadsJob : Option (List ℕ) → Option (List ℕ) → Result Job InputFault → Type 0
-ReadsJob None after result = after ≡ None
-ReadsJob (Some before) after result = (read rest : List ℕ) × (before ≡ read ++ rest) × (after ≡ Some rest) × FitsText result read rest
+abbrev pub ReadsInput : Option (List ℕ) → Option (List ℕ) → Result JobText InputFault → Type 0
+ReadsInput None after result = after ≡ None
+ReadsInput (Some before) after result = (read rest : List ℕ) × (before ≡ read ++ rest) × (after ≡ Some rest) × FitsText result read rest

@@ -1,82 +1,92 @@
-ghost use Rattle.std.specs.Prelude.{◌≡◌, IfOk};
+ghost use Rattle.std.specs.Prelude.{◌≡◌, ◌⊎◌, ◌≤◌, IsTrue};
 ghost use Rattle.graph_core.specs.Graphs.{IsJob};
 ghost use Rattle.graph_core.specs.Fragments.{fragments_of};
-ghost use Rattle.graph_text.specs.Input.{IsBuilt};
+ghost use Rattle.coordinator.specs.Runs.{IsStoryOf};
 ghost use Rattle.grape_event.specs.declared.event.Event.TheVariants.{End};
-ghost use Rattle.coordinator.specs.Runs.{HasRun, IsStoryOf, EndsBy, AreLocalsOf};
-ghost use Rattle.coordinator.specs.Shapes.{shape_of as shape_of_job};
-ghost use Rattle.grape_run.specs.Answered.{IsOutcomeOf};
+ghost use Rattle.coordinator.specs.Runs.{EndsBy, AreLocalsOf};
+ghost use Rattle.grape_run.specs.Commands.{digest_of};
+ghost use Rattle.grape_run.specs.Entering.{CountsFor, HasEnded, IsLegalRan};
+ghost use Rattle.grape_run.specs.Answered.{IsAnswered, IsOutcomeOf, HasMade, status_in};
 
+use crate::finish::Finish;
+use crate::input::JobText;
+use crate::running::run_from;
+use crate::status::Status;
+use crate::words::Mode;
 use answer_text::{Answer, assemble};
-use coordinator::{Ran, Story, done_is_quiet, done_is_the_answer, run_alone, run_lanes, shape_of};
+use coordinator::{Ran, Story, done_is_quiet, done_is_the_answer, shape_of};
 use delay_stretch::Pacer;
 use fragment_cut::fragment;
+use grape_disk::Disk;
+use grape_event::StopCause;
 use graph_core::{Fragment, Job};
 use lane_loop::Gate;
 use pie_core::Local;
+use recovery::claims_add_up;
 use std::alloc::Global;
 use std::sync::Wait;
 use std::thread::Threads;
-use token_cut::Shape;
 
 /// What a run of a job gave.
 #[derive(Drop)]
 pub(crate) enum Outcome {
     /// It was done, and this is its answer.
     Answered { answer: Answer, story: Story },
-    /// Memory ran out. The story is there where the run had begun.
-    NoMemory { story: Option<Story> },
+    /// It ended without an answer.
+    Ended(Finish),
 }
 
-/// Runs a job on the fragments of its graph, and gives its answer. On one lane it runs on the caller's thread, and the
-/// gate isn't asked.
-pub(crate) fn run_job<R: Threads + Wait + Sync, G: Gate + Sync>(
+/// Runs a job on the fragments of its graph, from the beginning or from the state file, and gives its answer.
+pub(crate) fn run_job<R: Threads + Wait + Sync, D: Disk, G: Gate + Sync>(
     rt: &R,
     alloc: Global,
-    job: &Job,
+    mode: Mode,
+    text: JobText,
+    disk: &mut D,
     pacers: Vec<Box<dyn Pacer + Send>>,
     gate: &G,
 ) -> Outcome
-    requires job { IsJob job.now }
-    requires built { IsBuilt job.now }
-    ensures { IsOutcomeOf job.now result }
+    requires job { IsJob text.job }
+    ensures made { HasMade D.content D.images D.moment D.honest mode text.job (digest_of text.bytes.items) result disk.old disk.new }
+    ensures counts { CountsFor (status_in result) (D.faults disk.old) (D.faults disk.new) }
+    ensures later { D.moment disk.old ≤ D.moment disk.new }
+    ensures honest { D.honest disk.new ≡ D.honest disk.old }
 {
-    let Ok(fragments) = fragment(alloc, job) else {
-        return Outcome::NoMemory { story: None };
+    claims_add_up(disk);
+    let JobText { job, bytes } = text;
+    let Ok(fragments) = fragment(alloc, &job) else {
+        return Outcome::Ended(Finish::without_story(Status::NoMemory));
     };
-    let Ok(shape) = shape_of(alloc, job, &fragments) else {
-        return Outcome::NoMemory { story: None };
+    let Ok(shape) = shape_of(alloc, &job, &fragments) else {
+        return Outcome::Ended(Finish::without_story(Status::NoMemory));
     };
-    match ran_by(rt, alloc, job, &fragments, &shape, pacers, gate) {
-        Ran::Done { locals, story } => answered(alloc, job, &fragments, &locals, story),
-        Ran::Stopped {
-            cause: _cause,
-            story,
-        } => Outcome::NoMemory { story: Some(story) },
-        Ran::NoMemory => Outcome::NoMemory { story: None },
+    match run_from(
+        rt, alloc, mode, &job, &fragments, &shape, bytes, disk, pacers, gate,
+    ) {
+        Ok(ran) => outcome_of(alloc, &job, &fragments, ran),
+        Err(status) => Outcome::Ended(Finish::without_story(status)),
     }
 }
 
-/// The run by as many lanes as the job says.
-fn ran_by<R: Threads + Wait + Sync, G: Gate + Sync>(
-    rt: &R,
-    alloc: Global,
-    job: &Job,
-    fragments: &[Fragment],
-    shape: &Shape,
-    pacers: Vec<Box<dyn Pacer + Send>>,
-    gate: &G,
-) -> Ran
+/// The answer of a run that was done, or how it ended without one.
+fn outcome_of(alloc: Global, job: &Job, fragments: &[Fragment], ran: Ran) -> Outcome
     requires job { IsJob job.now }
-    requires built { IsBuilt job.now }
     requires fragments { fragments.now ≡ fragments_of job.now }
-    requires shape { shape.now ≡ shape_of_job job.now }
-    ensures { HasRun job.now fragments.now result }
+    requires legal { IsLegalRan job.now ran }
+    requires ended { HasEnded job.now fragments.now ran }
+    ensures { IsOutcomeOf job.now ran result }
 {
-    if job.settings.lanes > 1 {
-        run_lanes(rt, alloc, job, fragments, shape, pacers, gate)
-    } else {
-        run_alone(alloc, job, fragments, shape, pacers)
+    match ran {
+        Ran::Done { locals, story } => answered(alloc, job, fragments, &locals, story),
+        Ran::Stopped {
+            cause: StopCause::Disk,
+            story,
+        } => Outcome::Ended(Finish::with_story(Status::DiskFault, story)),
+        Ran::Stopped {
+            cause: StopCause::Memory,
+            story,
+        } => Outcome::Ended(Finish::with_story(Status::NoMemory, story)),
+        Ran::NoMemory => Outcome::Ended(Finish::without_story(Status::NoMemory)),
     }
 }
 
@@ -90,15 +100,15 @@ fn answered(
 ) -> Outcome
     requires job { IsJob job.now }
     requires fragments { fragments.now ≡ fragments_of job.now }
-    requires story { IsStoryOf job.now story }
+    requires story { IsStoryOf job.now story.start story }
     requires ended { EndsBy End story.journal.events }
     requires locals { AreLocalsOf job.now fragments.now story locals.now }
-    ensures { IsOutcomeOf job.now result }
+    ensures { IsAnswered job.now story result }
 {
     done_is_the_answer();
     done_is_quiet();
     match assemble(alloc, job, fragments, locals) {
         Ok(answer) => Outcome::Answered { answer, story },
-        Err(_) => Outcome::NoMemory { story: Some(story) },
+        Err(_) => Outcome::Ended(Finish::with_story(Status::NoMemory, story)),
     }
 }

@@ -8,8 +8,8 @@ use coordinator::Story;
 pub struct Finish {
     pub status: Status,
     /// There is one after `Done` and `WriteFault`, whose journal ended by a probe with no worker running and no message
-    /// waiting, and none where the words or the input were refused or a read failed.
-    /// After `NoMemory` there may be one: its journal ended by End, or by a Stop for want of memory.
+    /// waiting. After `DiskFault` and `NoMemory` there is one where the run had begun: its journal ended by a Stop for
+    /// that, or after `NoMemory` by End. After every other status there is none.
     pub story: Option<Story>,
 }
 
@@ -24,7 +24,7 @@ impl Finish {
         }
     }
 
-    /// A command whose run was done.
+    /// A command whose run began.
     pub(crate) fn with_story(status: Status, story: Story) -> Finish
         ensures { result ≡ record { status = status; story = Some story } }
     {

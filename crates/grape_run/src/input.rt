@@ -1,13 +1,19 @@
 ghost use Rattle.std.specs.Prelude.{◌≡◌, ◌≤◌, Err, IfOk, vec_len};
 ghost use Rattle.grape_port.specs.Ports.{Rose};
 ghost use Rattle.graph_core.specs.Graphs.{IsJob};
-ghost use Rattle.graph_text.specs.Input.{IsBuilt};
-ghost use Rattle.grape_run.specs.Runs.{ReadsJob};
+ghost use Rattle.grape_run.specs.Runs.{ReadsInput};
 
 use grape_port::{Failed, NoMemory, Source};
 use graph_core::Job;
 use graph_text::{LineReader, TextFault};
 use std::alloc::Global;
+
+/// A job, and the bytes of the input that it was read from.
+#[derive(Drop)]
+pub struct JobText {
+    pub job: Job,
+    pub bytes: Vec<u8>,
+}
 
 /// Why no job was read.
 #[derive(Clone, Copy, Debug, PartialEq, Eq)]
@@ -24,37 +30,41 @@ const PIECE: usize = 65_536;
 /// The most bytes that an input has.
 const MAX_BYTES: u64 = 268_435_456;
 
-/// Reads the job that a source has, in pieces of 65,536 bytes, to the end or to the first fault.
+/// Reads the job that a source has, in pieces of 65,536 bytes, to the end or to the first fault, and keeps the bytes.
 ///
 /// A bad line is the first one, as soon as what was read shows it, or at the end of the input. `Failed` comes only
 /// where a read failed before a bad line was shown.
-pub fn read_job<S: Source>(alloc: Global, input: &mut S) -> Result<Job, InputFault>
-    ensures read { ReadsJob (S.left input.old) (S.left input.new) result }
-    ensures job { IfOk result IsJob }
-    ensures built { IfOk result IsBuilt }
+pub fn read_job<S: Source>(alloc: Global, input: &mut S) -> Result<JobText, InputFault>
+    ensures read { ReadsInput (S.left input.old) (S.left input.new) result }
+    ensures job { IfOk result (λ text. IsJob text.job) }
     ensures fault { result ≡ Err InputFault.Failed → Rose (S.faults input.old) (S.faults input.new) }
     ensures faults_stay { S.faults input.old ≤ S.faults input.new }
 {
     let Ok(mut reader) = LineReader::new(alloc) else {
         return Err(InputFault::Text(TextFault::NoMemory));
     };
-    let Ok(mut bytes) = zeros(alloc, PIECE) else {
+    let Ok(mut buffer) = zeros(alloc, PIECE) else {
         return Err(InputFault::Text(TextFault::NoMemory));
     };
-    let piece = bytes.as_mut_slice();
+    let mut bytes = Vec::new(alloc);
+    let piece = buffer.as_mut_slice();
     for turn in 0..=MAX_BYTES {
         let Ok(count) = input.read(piece) else {
             return Err(InputFault::Failed);
         };
         if count == 0 {
-            return match reader.finish() {
-                Ok(job) => Ok(job),
-                Err(fault) => Err(InputFault::Text(fault)),
+            let job = match reader.finish() {
+                Ok(job) => job,
+                Err(fault) => return Err(InputFault::Text(fault)),
             };
+            return Ok(JobText { job, bytes });
         }
         if let Err(fault) = reader.feed(&piece[..count]) {
             return Err(InputFault::Text(fault));
         }
+        let Ok(()) = bytes.extend_from_slice(&piece[..count]) else {
+            return Err(InputFault::Text(TextFault::NoMemory));
+        };
     }
     unreachable!()
 }

@@ -4,6 +4,7 @@ ghost use Rattle.std.specs.Prelude.{◌≡◌, ◌<◌, IfOk, vec_len};
 use crate::{Finish, Status, Words, grape};
 use coordinator::Story;
 use delay_stretch::{Calm, Pacer, Scripted};
+use grape_disk::MemDisk;
 use grape_event::Event;
 use grape_port::{MemSink, MemSource, NoMemory};
 use lane_loop::{Gate, OpenGate};
@@ -75,9 +76,10 @@ fn run_with<R: Threads + Wait + Sync + AllocGlobal, G: Gate + Sync>(
     let mut input = MemSource::new(bytes, 4096, Vec::new(alloc));
     let mut out = MemSink::new(alloc, 4096, 4096, Vec::new(alloc))?;
     let mut note = MemSink::new(alloc, 4096, 4096, Vec::new(alloc))?;
+    let mut disk = MemDisk::new(alloc, 0, b"", Vec::new(alloc), None)?;
     let pacers = pacers_of(alloc, answers)?;
     let finish = grape(
-        rt, alloc, &words, &mut input, &mut out, &mut note, pacers, gate,
+        rt, alloc, &words, &mut input, &mut out, &mut note, &mut disk, pacers, gate,
     );
     Ok(Written { finish, out })
 }

@@ -17,6 +17,14 @@ pub enum Status {
     ReadFault,
     /// A write or the flush of the answer failed; a front of the answer may stand there.
     WriteFault,
+    /// A call of the disk failed, before the run or in it.
+    DiskFault,
+    /// A fresh run that is to keep snapshots found a state file, of that many bytes.
+    StateThere { length: u64 },
+    /// The state file is of another input: the digest that it keeps, and that of this input.
+    OtherJob { kept: [u8; 32], here: [u8; 32] },
+    /// The state file is damaged at that place.
+    BadState { place: u64 },
     /// Memory ran out before anything was written.
     NoMemory,
 }
@@ -36,7 +44,7 @@ impl From<InputFault> for Status {
 }
 
 /// The number with which a program of this status ends: 0 Done, 2 BadWords, 3 BadInput, 4 ReadFault, 5 WriteFault,
-/// 10 NoMemory.
+/// 6 DiskFault, 7 StateThere, 8 OtherJob, 9 BadState, 10 NoMemory.
 pub fn code(status: &Status) -> u8
     ensures { result ≡ code_of status.now }
 {
@@ -46,6 +54,10 @@ pub fn code(status: &Status) -> u8
         Status::BadInput { line: _, why: _ } => 3,
         Status::ReadFault => 4,
         Status::WriteFault => 5,
+        Status::DiskFault => 6,
+        Status::StateThere { length: _ } => 7,
+        Status::OtherJob { kept: _, here: _ } => 8,
+        Status::BadState { place: _ } => 9,
         Status::NoMemory => 10,
     }
 }

@@ -1,8 +1,9 @@
-ghost use Rattle.std.specs.Prelude.{◌≤◌};
+ghost use Rattle.std.specs.Prelude.{◌≤◌, length, IfOk, vec_len};
 
 use crate::lane_tests::{Answers, pacers_of};
 use crate::notes::write_note;
 use crate::{Status, Words, code, grape};
+use grape_disk::{Disk, MemDisk};
 use grape_port::{MemSink, MemSource, NoMemory};
 use graph_text::Why;
 use lane_loop::OpenGate;
@@ -16,6 +17,17 @@ use std::thread::Threads;
 fn detour() -> &'static [u8] {
     b"query dist 1\n1 2 5\n2 3 1\n1 3 9\n"
 }
+
+/// The same, with a snapshot after each Take.
+fn kept_detour() -> &'static [u8] {
+    b"query dist 1\n1 2 5\n2 3 1\n1 3 9\nsnapshot 1\n"
+}
+
+/// The SHA-256 digest of that text.
+const DETOUR_DIGEST: [u8; 32] = [
+    0x61, 0x0a, 0x36, 0xfa, 0x2a, 0xa8, 0x75, 0xc8, 0x36, 0xfe, 0x5d, 0x00, 0x07, 0x76, 0x4a, 0x52,
+    0x78, 0x33, 0x06, 0xb1, 0x36, 0xa4, 0xa4, 0xf1, 0x9d, 0xb3, 0xf6, 0xb7, 0x74, 0xb6, 0xf0, 0xd0,
+];
 
 fn bad(line: u64, why: Why) -> Status {
     Status::BadInput { line, why }
@@ -129,7 +141,7 @@ fn bad_table() -> [(&'static [u8], u64, Why, &'static [u8]); 19] {
     ]
 }
 
-fn note_table() -> [(Status, &'static [u8]); 8] {
+fn note_table() -> [(Status, &'static [u8]); 12] {
     [
         (Status::Done, b""),
         (
@@ -144,12 +156,40 @@ fn note_table() -> [(Status, &'static [u8]); 8] {
         (bad(10, Why::TooLong), b"grape: input line 10: too-long\n"),
         (Status::ReadFault, b"grape: read fault\n"),
         (Status::WriteFault, b"grape: write fault\n"),
+        (Status::DiskFault, b"grape: disk fault\n"),
+        (
+            Status::StateThere {
+                length: 272_000_210,
+            },
+            b"grape: state file has 272000210 bytes\n",
+        ),
+        (
+            Status::OtherJob {
+                kept: [0x47; 32],
+                here: DETOUR_DIGEST,
+            },
+            b"grape: state of another job: 4747474747474747474747474747474747474747474747474747474747474747 not 610a36fa2aa875c836fe5d0007764a52783306b136a4a4f19db3f6b774b6f0d0\n",
+        ),
+        (
+            Status::BadState { place: 65 },
+            b"grape: state damaged at 65\n",
+        ),
         (Status::NoMemory, b"grape: out of memory\n"),
     ]
 }
 
-fn word_table() -> [&'static str; 7] {
-    ["", "run extra", "-h", "Run", "ru", "runs", "demo 5"]
+fn word_table() -> [&'static str; 9] {
+    [
+        "",
+        "run extra",
+        "-h",
+        "Run",
+        "ru",
+        "runs",
+        "demo 5",
+        "resume extra",
+        "Resume",
+    ]
 }
 
 fn words_of(alloc: Global, line: &str) -> Result<Words, NoMemory> {
@@ -168,13 +208,35 @@ struct Outcome {
     note: MemSink,
 }
 
-/// Runs with ports that move at most `most` bytes at once, whose calls with these numbers fail, and with calm pacers.
+/// A disk with these bytes, whose call with that number fails.
+fn disk_of(alloc: Global, bytes: &[u8], fails: u64) -> Result<MemDisk, NoMemory>
+    requires { length bytes.now ≤ 4096 }
+{
+    MemDisk::new(alloc, 4096, bytes, Vec::from_slice(alloc, &[fails])?, None)
+}
+
+/// Runs with ports that move at most `most` bytes at once, whose calls with these numbers fail, with an empty state file
+/// and with calm pacers.
 fn run_of<R: Threads + Wait + Sync + AllocGlobal>(
     rt: &R,
     words: &str,
     text: &[u8],
     most: usize,
     fails: [u64; 3],
+) -> Result<Outcome, NoMemory>
+    requires { 1 ≤ most }
+{
+    let mut disk = disk_of(rt.alloc(), b"", 0)?;
+    run_on(rt, words, text, most, fails, &mut disk)
+}
+
+fn run_on<R: Threads + Wait + Sync + AllocGlobal>(
+    rt: &R,
+    words: &str,
+    text: &[u8],
+    most: usize,
+    fails: [u64; 3],
+    disk: &mut MemDisk,
 ) -> Result<Outcome, NoMemory>
     requires { 1 ≤ most }
 {
@@ -190,7 +252,7 @@ fn run_of<R: Threads + Wait + Sync + AllocGlobal>(
     let mut note = MemSink::new(alloc, 4096, most, Vec::from_slice(alloc, &[note_write])?)?;
     let pacers = pacers_of(alloc, &Answers::Calm)?;
     let finish = grape(
-        rt, alloc, &words, &mut input, &mut out, &mut note, pacers, &OpenGate,
+        rt, alloc, &words, &mut input, &mut out, &mut note, disk, pacers, &OpenGate,
     );
     let status = finish.status;
     Ok(Outcome { status, out, note })
@@ -277,10 +339,73 @@ fn failing_reads_and_writes(rt: HostRuntime) -> Result<(), Fail> {
     Ok(())
 }
 
+/// A file of the job behind kept_detour, long enough, with an open gate and this digest, and else zeros.
+fn file_of(alloc: Global, digest: &[u8; 32]) -> Result<Vec<u8>, NoMemory>
+    ensures { IfOk result (λ file. vec_len file ≤ 4096) }
+{
+    let mut file = vec![in alloc; 0; 4096]?;
+    let bytes = file.as_mut_slice();
+    bytes[0] = b'G';
+    for place in 0..32 {
+        bytes[8 + place] = digest[place];
+    }
+    Ok(file)
+}
+
+/// The status of a command on a state file with these bytes, where the disk's call with that number fails.
+fn status_on<R: Threads + Wait + Sync + AllocGlobal>(
+    rt: &R,
+    words: &str,
+    text: &[u8],
+    bytes: &[u8],
+    fails: u64,
+) -> Result<Status, NoMemory>
+    requires { length bytes.now ≤ 4096 }
+{
+    let mut disk = disk_of(rt.alloc(), bytes, fails)?;
+    let run = run_on(rt, words, text, 100, [0, 0, 0], &mut disk)?;
+    Ok(run.status)
+}
+
+#[test]
+fn refused_state_files(rt: HostRuntime) -> Result<(), Fail> {
+    let other = file_of(rt.alloc(), &[0x47; 32])?;
+    let own = file_of(rt.alloc(), &DETOUR_DIGEST)?;
+    let text = kept_detour();
+    assert_eq!(rt;
+        status_on(&rt, "run", text, b"x", 0)?,
+        Status::StateThere { length: 1 }
+    );
+    assert_eq!(rt; status_on(&rt, "run", text, b"", 1)?, Status::DiskFault);
+    assert_eq!(rt;
+        status_on(&rt, "resume", text, other.as_slice(), 0)?,
+        Status::OtherJob {
+            kept: [0x47; 32],
+            here: DETOUR_DIGEST
+        }
+    );
+    assert_eq!(rt;
+        status_on(&rt, "resume", text, own.as_slice(), 0)?,
+        Status::BadState { place: 1 }
+    );
+    assert_eq!(rt; status_on(&rt, "resume", text, b"", 1)?, Status::DiskFault);
+    Ok(())
+}
+
+/// Without snapshots a run makes no call of the disk, whatever stands there.
+#[test]
+fn no_snapshots_no_disk(rt: HostRuntime) -> Result<(), Fail> {
+    let mut disk = disk_of(rt.alloc(), b"x", 1)?;
+    let run = run_on(&rt, "run", detour(), 100, [0, 0, 0], &mut disk)?;
+    assert_eq!(rt; run.status, Status::Done);
+    assert_eq!(rt; disk.calls(), 0);
+    Ok(())
+}
+
 #[test]
 fn notes(rt: HostRuntime) -> Result<(), Fail> {
     for (status, want) in note_table() {
-        let mut note = MemSink::new(rt.alloc(), 100, 7, Vec::new(rt.alloc()))?;
+        let mut note = MemSink::new(rt.alloc(), 200, 7, Vec::new(rt.alloc()))?;
         write_note(&mut note, &status);
         assert_eq!(rt; note.bytes(), want, "of {status:?}");
     }

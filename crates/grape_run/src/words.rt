@@ -8,8 +8,10 @@ use std::marker::Model;
 /// What a run does.
 #[derive(Clone, Copy, Debug, PartialEq, Eq)]
 pub enum Mode {
-    /// Reads a job and prints its answer.
+    /// Reads a job, runs it from the beginning and prints its answer.
     Run,
+    /// Reads a job, goes on from the last snapshot that was kept, and prints its answer.
+    Resume,
 }
 
 /// Why words were refused.
@@ -57,7 +59,7 @@ impl Words {
     }
 }
 
-/// What the words ask for: `run`, as the one word. All else is refused as `Bad`.
+/// What the words ask for: `run` or `resume`, as the one word. All else is refused as `Bad`.
 ///
 /// Today this takes no memory, and so `NoMemory` never comes.
 pub fn read_words(_alloc: Global, words: &Words) -> Result<Mode, WordFault>
@@ -65,6 +67,7 @@ pub fn read_words(_alloc: Global, words: &Words) -> Result<Mode, WordFault>
 {
     match words.words.as_slice() {
         [word] if word.as_str() == "run" => Ok(Mode::Run),
+        [word] if word.as_str() == "resume" => Ok(Mode::Resume),
         _ => Err(WordFault::Bad),
     }
 }

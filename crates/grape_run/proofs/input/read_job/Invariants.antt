@@ -8,6 +8,7 @@ use Rattle.grape_run.proofs.input.read_job.Given as goal
 abbrev pub invariant-loop-turn : goal.invariant-loop-turn
 invariant-loop-turn g l = record {
   text : List ℕ;
+  kept : l.bytes.items ≡ text;
   has_read : HasRead l.reader text;
   taken : TakesFront (g.S.Source.left l.initial.input) text (g.S.Source.left l.input);
   turns : l.turn ≤ length text;

@@ -1,0 +1,11 @@
+use Rattle.std.proofs.Common.{◌++◌}
+use Rattle.grape_run.proofs.Parts.{on_err, front_longer, err_behind}
+use Rattle.grape_run.proofs.notes.write_three.Goals as goal
+
+pub returns-in_err-write_two-clause-err : goal.returns-in_err-write_two-clause-err
+returns-in_err-write_two-clause-err g c =
+    on_err c.from_residual.result (front_longer _ _ (c.args.first.now ++ c.args.second.now) c.args.third.now c.in_err-write_two.ensures.err)
+
+pub returns-clause-err : goal.returns-clause-err
+returns-clause-err g c =
+    err_behind c.write_all.result _ _ _ (c.args.first.now ++ c.args.second.now) c.args.third.now c.in_ok-write_two.ensures.appended c.write_all.ensures.err
