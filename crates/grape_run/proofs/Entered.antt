@@ -18,7 +18,7 @@ use Rattle.recovery.specs.declared.entry.Entry.{Entry}
 use Rattle.recovery.specs.declared.entry.EntryFault.{EntryFault}
 use Rattle.recovery.specs.declared.entry.EntryFault.TheVariants as entry
 use Rattle.grape_hub.proofs.Answering.{fresh_is_a_start}
-use Rattle.coordinator.specs.Shapes.{shape_of, FormsAgree}
+use Rattle.coordinator.specs.Shapes.{shape_of, EntriesMayBegin}
 use Rattle.coordinator.proofs.Beginnings.{begun_fresh}
 use Rattle.grape_run.specs.Commands.{StartsBy, RefusesFor}
 use Rattle.grape_run.specs.Entering.{IsUnanswered, entry_status, store_status, HasEntered}
@@ -53,10 +53,6 @@ starts_resumed : (job : Job) (digest : List ℕ) (content : Option (List ℕ)) (
     ((file : List ℕ) → content ≡ Some file → StartsFrom (shape_of job) digest file start) → (bytes : List ℕ) → StartsFrom (shape_of job) digest bytes start → StartsBy mode.Resume job digest content start
 starts_resumed job digest None start told bytes read = (bytes, read)
 starts_resumed job digest (Some file) start told bytes read = told file refl
-
-resumed_form : FormsAgree → (job : Job) (start : SnapshotParts) → IsJob job → (start ≡ shapes.fresh_snapshot (shape_of job)) ⊎ IsInSlotForm (shape_of job) (start.epoch % 2) start → IsInForm (system_of job) start
-resumed_form agree job start is_job (inl fresh) = fresh_form job start is_job fresh
-resumed_form agree job start is_job (inr form) = ((agree job is_job (start.epoch % 2) start).0 form).1
 
 -- the status of a run that can't be resumed
 pub resumed_refuses : (job : Job) (digest : List ℕ) (content : Option (List ℕ)) (fault : StoreFault) →
@@ -103,18 +99,18 @@ module _ {D : Type 0} (content : D → Option (List ℕ)) (images : D → ℕ �
         ready = λ m h file rest. may_keep_for shape (shape_of job) dig digest file 0 start.epoch old new same (is m) zero_epoch (ready m h file rest);
       }
 
-  pub resumed_enters : FormsAgree → (job : Job) (shape : Starts) (dig digest bytes : List ℕ) (start : SnapshotParts) (s : Option StoreValue) (old new : D) → IsJob job → shape ≡ shape_of job → dig ≡ digest →
+  pub resumed_enters : EntriesMayBegin → (job : Job) (shape : Starts) (dig digest bytes : List ℕ) (start : SnapshotParts) (s : Option StoreValue) (old new : D) → IsJob job → shape ≡ shape_of job → dig ≡ digest →
       ((file : List ℕ) → content old ≡ Some file → StartsFrom shape dig file start) → StartsFrom shape dig bytes start → (start ≡ shapes.fresh_snapshot shape) ⊎ IsInSlotForm shape (start.epoch % 2) start →
       (1 ≤ job.settings.snapshot → HasStore dig start.epoch s) →
       (1 ≤ job.settings.snapshot → IsTrue (honest old) → (file : List ℕ) → AtRest content images moment old file → MayKeep content images moment shape dig [] [] file start.epoch old new) →
       HasEntered content images moment honest mode.Resume job digest start s old new
-  resumed_enters agree job shape dig digest bytes start s old new is_job same is told read form has ready =
+  resumed_enters may job shape dig digest bytes start s old new is_job same is told read form has ready =
       let from : (file : List ℕ) → StartsFrom shape dig file start → StartsFrom (shape_of job) digest file start =
       λ file f. subst (λ (x : Starts). StartsFrom x digest file start) same (subst (λ (x : List ℕ). StartsFrom shape x file start) is f) in
       record {
         starts = starts_resumed job digest (content old) start (λ file t. from file (told file t)) bytes (from bytes read);
         free = tt;
-        form = resumed_form agree job start is_job (subst (λ (x : Starts). (start ≡ shapes.fresh_snapshot x) ⊎ IsInSlotForm x (start.epoch % 2) start) same form);
+        form = may job is_job start (subst (λ (x : Starts). (start ≡ shapes.fresh_snapshot x) ⊎ IsInSlotForm x (start.epoch % 2) start) same form);
         has_store = λ m. store_for dig digest start.epoch start.epoch s is refl (has m);
         ready = λ m h file rest. may_keep_for shape (shape_of job) dig digest file start.epoch start.epoch old new same is refl (ready m h file rest);
       }

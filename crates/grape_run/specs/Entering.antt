@@ -92,19 +92,6 @@ story_of (ran.Done locals story) = Some story
 story_of (ran.Stopped cause story) = Some story
 story_of ran.NoMemory = None
 
--- What was kept in the new run is as in the old one where the job asks for snapshots, and else nothing is.
-pub record KeepsAsAsked (job : Job) (old new : Story) : Type 0 where
-  pub starts : new.start ≡ old.start
-  pub journal : new.journal ≡ old.journal
-  pub asked : 1 ≤ job.settings.snapshot → new.kept.items ≡ old.kept.items
-  pub unasked : job.settings.snapshot ≡ 0 → new.kept.items ≡ []
-
-abbrev pub IsRanAsAsked : Job → Ran → Ran → Type 0
-IsRanAsAsked job (ran.Done locals story) (ran.Done locals_new story_new) = (locals_new ≡ locals) × KeepsAsAsked job story story_new
-IsRanAsAsked job (ran.Stopped cause story) (ran.Stopped cause_new story_new) = (cause_new ≡ cause) × KeepsAsAsked job story story_new
-IsRanAsAsked job ran.NoMemory ran.NoMemory = ⊤
-IsRanAsAsked job _ _ = ⊥
-
 -- the status of a run that ended so, where its answer can be made
 abbrev pub status_after : Result Ran Status → Status
 status_after (Ok (ran.Done locals story)) = status.Done

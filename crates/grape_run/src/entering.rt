@@ -7,7 +7,7 @@ ghost use Rattle.grape_run.specs.Entering.{IsEntryFor, EntryCounts, entry_status
 
 use crate::status::Status;
 use crate::words::Mode;
-use coordinator::{Entry, EntryFault, begin_fresh, forms_agree, recover};
+use coordinator::{Entry, EntryFault, begin_fresh, entries_may_begin, recover};
 use grape_disk::Disk;
 use graph_core::Job;
 use recovery::claims_add_up;
@@ -81,7 +81,7 @@ fn enter_again<D: Disk>(
     ensures later { D.moment disk.old ≤ D.moment disk.new }
     ensures honest { D.honest disk.new ≡ D.honest disk.old }
 {
-    forms_agree();
+    entries_may_begin();
     let digest = digest_if(true, bytes);
     match recover(alloc, shape, &digest, job.settings.snapshot, disk) {
         Ok(entry) => Ok(entry),

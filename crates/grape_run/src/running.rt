@@ -5,14 +5,14 @@ ghost use Rattle.base_machine.specs.Machine.{system_of};
 ghost use Rattle.base_machine.specs.Fitness.{IsInForm};
 ghost use Rattle.token_cut.specs.Shapes.{IsShape};
 ghost use Rattle.coordinator.specs.Shapes.{shape_of};
-ghost use Rattle.coordinator.specs.Runs.{HasRun, HasLast, HasUsed, KeepsBy};
+ghost use Rattle.coordinator.specs.Runs.{HasRun, KeepsNothing, HasLast, HasUsed, KeepsBy};
 ghost use Rattle.grape_run.specs.Commands.{digest_of};
-ghost use Rattle.grape_run.specs.Entering.{CountsFor, KeepsAsAsked, IsRanAsAsked, RanCounts, HasTried, status_after};
+ghost use Rattle.grape_run.specs.Entering.{CountsFor, RanCounts, HasTried, status_after};
 
 use crate::entering::enter;
 use crate::status::Status;
 use crate::words::Mode;
-use coordinator::{Entry, Ran, Story, run_alone, run_lanes};
+use coordinator::{Entry, Ran, run_alone, run_lanes};
 use delay_stretch::Pacer;
 use grape_disk::Disk;
 use graph_core::{Fragment, Job};
@@ -48,8 +48,9 @@ pub(crate) fn run_from<R: Threads + Wait + Sync, D: Disk, G: Gate + Sync>(
     claims_add_up(disk);
     match enter(alloc, mode, job, shape, bytes, disk) {
         Ok(entry) => {
-            let ran = ran_by(rt, alloc, job, fragments, shape, entry, disk, pacers, gate);
-            Ok(as_asked(alloc, job, ran))
+            Ok(ran_by(
+                rt, alloc, job, fragments, shape, entry, disk, pacers, gate,
+            ))
         }
         Err(status) => Err(status),
     }
@@ -74,6 +75,7 @@ fn ran_by<R: Threads + Wait + Sync, D: Disk, G: Gate + Sync>(
     requires store { 1 ≤ job.now.settings.snapshot → HasLast entry.start.epoch entry.store }
     ensures run { HasRun job.now fragments.now entry.start result }
     ensures used { HasUsed D.moment D.honest job.now disk.old disk.new }
+    ensures unkept { job.now.settings.snapshot ≡ 0 → KeepsNothing result }
     ensures crash { IsTrue (D.honest disk.old) → KeepsBy D.content D.images D.moment job.now entry.store result disk.old disk.new }
     ensures counts { RanCounts result (D.faults disk.old) (D.faults disk.new) }
 {
@@ -81,40 +83,5 @@ fn ran_by<R: Threads + Wait + Sync, D: Disk, G: Gate + Sync>(
         run_lanes(rt, alloc, job, fragments, shape, entry, disk, pacers, gate)
     } else {
         run_alone(alloc, job, fragments, shape, entry, disk, pacers)
-    }
-}
-
-/// The same run, of which nothing is told as kept where the job asks for no snapshots: none was.
-fn as_asked(alloc: Global, job: &Job, ran: Ran) -> Ran
-    ensures { IsRanAsAsked job.now ran result }
-{
-    match ran {
-        Ran::Done { locals, story } => Ran::Done {
-            locals,
-            story: story_as_asked(alloc, job, story),
-        },
-        Ran::Stopped { cause, story } => Ran::Stopped {
-            cause,
-            story: story_as_asked(alloc, job, story),
-        },
-        Ran::NoMemory => Ran::NoMemory,
-    }
-}
-
-fn story_as_asked(alloc: Global, job: &Job, story: Story) -> Story
-    ensures { KeepsAsAsked job.now story result }
-{
-    if job.settings.snapshot > 0 {
-        return story;
-    }
-    let Story {
-        start,
-        journal,
-        kept: _kept,
-    } = story;
-    Story {
-        start,
-        journal,
-        kept: Vec::new(alloc),
     }
 }

@@ -14,7 +14,7 @@ returns-in-Ok-clause-entry g c =
     let is : c.digest_if-digest.result ≡ digest = c.digest_if-digest.ensures refl in
     let e = c.in-Ok.ensures in
     record {
-      enters = resumed_enters D.content D.images D.moment D.honest c.forms_agree.ensures job c.args.shape.now c.digest_if-digest.result digest e.read.0 c.in-Ok.entry.start c.in-Ok.entry.store _ _ c.requires.job c.requires.shape is
+      enters = resumed_enters D.content D.images D.moment D.honest c.entries_may_begin.ensures job c.args.shape.now c.digest_if-digest.result digest e.read.0 c.in-Ok.entry.start c.in-Ok.entry.store _ _ c.requires.job c.requires.shape is
           e.start e.read.1 e.form e.store e.ready;
       crash = resumed_crash D.content D.images D.moment D.honest job c.args.shape.now c.digest_if-digest.result digest _ _ c.requires.shape is e.crash;
       unused = λ run. absurd (not_run run);
