@@ -1,0 +1,152 @@
+//! Runs that are stopped at each call of the disk, and go on from what a crash may leave.
+
+use crate::commands::{Left, check_disk_fault, check_done, command, last_kept, start_of};
+use crate::disks::{IMAGES, disk_of, image_by, stopping};
+use crate::inputs::{detour, detour_answer, drawn, query_table, text_of};
+use grape_disk::MemDisk;
+use grape_port::NoMemory;
+use grape_run::Status;
+use std::ops::Range;
+use std::process::Abort;
+use std::sync::Wait;
+use std::test::Fail;
+use std::thread::Threads;
+
+/// No run of these trials has as many calls of the disk.
+const MANY_CALLS: u64 = 1000;
+
+/// Stops where a resume on these bytes isn't done with this answer, or begins neither at the snapshot of the last epoch
+/// that was kept nor at the next one. Says at which epoch it begins.
+pub(crate) fn resume_from<R: Abort + Threads + Wait + Sync + AllocGlobal>(
+    rt: &R,
+    text: &[u8],
+    bytes: &[u8],
+    last: u64,
+    want: &[u8],
+) -> Result<u64, NoMemory> {
+    let mut disk = disk_of(rt.alloc(), bytes)?;
+    let left = command(rt, "resume", text, &mut disk)?;
+    check_done(rt, &left, want);
+    let start = start_of(&left).unwrap_or(u64::MAX);
+    let next = last.saturating_add(1);
+    assert!(rt; start == last || start == next, "at {start} behind {last}");
+    Ok(start)
+}
+
+/// Resumes the run of a text from so many images of a disk, from the one with this number on. Says how many began at a
+/// snapshot.
+pub(crate) fn resume_each<R: Abort + Threads + Wait + Sync + AllocGlobal>(
+    rt: &R,
+    text: &[u8],
+    disk: &MemDisk,
+    numbers: Range<u64>,
+    last: u64,
+    want: &[u8],
+) -> Result<u64, NoMemory> {
+    let mut resumed = 0_u64;
+    for number in numbers {
+        let image = image_by(rt.alloc(), disk, number)?;
+        if resume_from(rt, text, &image, last, want)? > 0 {
+            resumed = resumed.saturating_add(1);
+        }
+    }
+    Ok(resumed)
+}
+
+/// A run of a text on an empty disk that stops at this call.
+fn stopped_at<R: Threads + Wait + Sync + AllocGlobal>(
+    rt: &R,
+    text: &[u8],
+    stop: u64,
+) -> Result<(Left, MemDisk), NoMemory> {
+    let mut disk = stopping(rt.alloc(), &[], stop)?;
+    let left = command(rt, "run", text, &mut disk)?;
+    Ok((left, disk))
+}
+
+/// Stops the run of a text at each call of the disk in turn, and resumes so many images of each, until a run has no such
+/// call. Says how many began at a snapshot.
+fn stop_at_each<R: Abort + Threads + Wait + Sync + AllocGlobal>(
+    rt: &R,
+    text: &[u8],
+    images: u64,
+    want: &[u8],
+) -> Result<u64, NoMemory> {
+    let mut resumed = 0_u64;
+    for stop in 1..MANY_CALLS {
+        let (left, disk) = stopped_at(rt, text, stop)?;
+        if left.finish.status == Status::Done {
+            check_done(rt, &left, want);
+            return Ok(resumed);
+        }
+        check_disk_fault(rt, &left);
+        let last = last_kept(&left).unwrap_or(0);
+        let numbers = stop..stop.saturating_add(images);
+        let more = resume_each(rt, text, &disk, numbers, last, want)?;
+        resumed = resumed.saturating_add(more);
+    }
+    panic!(rt; "no run was done")
+}
+
+#[test]
+fn a_worked_run_goes_on_from_each_stop(rt: HostRuntime) -> Result<(), Fail> {
+    let resumed = stop_at_each(&rt, detour(), IMAGES, detour_answer())?;
+    assert!(rt; resumed > 0);
+    Ok(())
+}
+
+/// The answer of a query on these lines, by a run on one lane without snapshots.
+pub(crate) fn plain_answer<R: Abort + Threads + Wait + Sync + AllocGlobal>(
+    rt: &R,
+    query: &str,
+    lines: &str,
+) -> Result<Vec<u8>, NoMemory> {
+    let alloc = rt.alloc();
+    let text = text_of(alloc, "lanes 1\n", 0, query, lines)?;
+    let mut disk = disk_of(alloc, &[])?;
+    let left = command(rt, "run", text.as_bytes(), &mut disk)?;
+    assert_eq!(rt; left.finish.status, Status::Done);
+    let answer = Vec::from_slice(alloc, left.out.bytes())?;
+    Ok(answer)
+}
+
+/// Stops runs of each query on a drawn graph under these settings, with snapshots after one Take, after two and after
+/// five, and resumes so many images of each stop.
+fn check_drawn<R: Abort + Threads + Wait + Sync + AllocGlobal>(
+    rt: &R,
+    settings: &str,
+    seed: u64,
+    images: u64,
+) -> Result<(), NoMemory> {
+    let alloc = rt.alloc();
+    let lines = drawn(alloc, seed, 8)?;
+    for query in query_table() {
+        let want = plain_answer(rt, query, lines.as_str())?;
+        let mut resumed = 0_u64;
+        for snapshot in [1, 2, 5] {
+            let text = text_of(alloc, settings, snapshot, query, lines.as_str())?;
+            let more = stop_at_each(rt, text.as_bytes(), images, &want)?;
+            resumed = resumed.saturating_add(more);
+        }
+        assert!(rt; resumed > 0, "of {query}");
+    }
+    Ok(())
+}
+
+#[test]
+fn one_lane_goes_on_from_each_stop(rt: HostRuntime) -> Result<(), Fail> {
+    check_drawn(&rt, "fragments 3\nlanes 1\npolicy ap\n", 3, IMAGES)?;
+    Ok(())
+}
+
+#[test]
+fn two_lanes_go_on_from_each_stop(rt: HostRuntime) -> Result<(), Fail> {
+    check_drawn(&rt, "fragments 4\nlanes 2\ncut range\n", 5, 1)?;
+    Ok(())
+}
+
+#[test]
+fn four_lanes_go_on_from_each_stop(rt: HostRuntime) -> Result<(), Fail> {
+    check_drawn(&rt, "fragments 5\nlanes 4\npolicy bsp\n", 7, 1)?;
+    Ok(())
+}
