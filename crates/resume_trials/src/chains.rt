@@ -60,12 +60,12 @@ fn check_chains<R: Abort + Threads + Wait + Sync + AllocGlobal>(
     number: u64,
 ) -> Result<(), NoMemory> {
     let alloc = rt.alloc();
-    let lines = drawn(alloc, number, 8)?;
+    let lines = drawn(alloc, number, 5)?;
     for query in query_table() {
         let want = plain_answer(rt, query, lines.as_str())?;
         for snapshot in [1, 2] {
             let text = text_of(alloc, settings, snapshot, query, lines.as_str())?;
-            for first in 1..5 {
+            for first in [1, 4] {
                 let links = chain(rt, text.as_bytes(), first, &want)?;
                 assert!(rt; links > 1, "of {query}");
             }

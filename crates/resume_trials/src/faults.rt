@@ -1,7 +1,7 @@
 //! Commands for which one call of the disk fails: a read, a write or a sync.
 
 use crate::commands::{Left, check_disk_fault, check_done, command, last_kept};
-use crate::disks::{IMAGES, disk_of, failing, image_by};
+use crate::disks::{disk_of, failing, image_by};
 use crate::inputs::{detour, detour_answer};
 use crate::stops::resume_each;
 use grape_disk::{Disk, MemDisk};
@@ -44,7 +44,7 @@ fn fail_each<R: Abort + Threads + Wait + Sync + AllocGlobal>(
         check_disk_fault(rt, &left);
         assert_eq!(rt; disk.calls(), call);
         let last = last_kept(&left).unwrap_or(epoch);
-        resume_each(rt, detour(), &disk, 0..IMAGES, last, detour_answer())?;
+        resume_each(rt, detour(), &disk, last, detour_answer())?;
     }
     panic!(rt; "no command was done")
 }

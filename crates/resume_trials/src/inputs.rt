@@ -71,12 +71,12 @@ pub(crate) fn query_table() -> [&'static str; 4] {
 }
 
 /// How many vertices a drawn graph has.
-const VERTICES: u64 = 9;
+const VERTICES: u64 = 7;
 
 /// So many edges between vertices, which a number draws, a way from the vertex 1, and a label for each vertex.
 pub(crate) fn drawn(alloc: Global, number: u64, edges: u32) -> Result<String, NoMemory> {
     let mut words = SplitMix64::seed_from_u64(number);
-    let mut lines = String::from_str(alloc, "1 9 4\n9 3 4\n3 7 4\n7 2 4\n")?;
+    let mut lines = String::from_str(alloc, "1 7 4\n7 3 4\n3 6 4\n")?;
     for _ in 0..edges {
         let word = words.next_word();
         let from = word % VERTICES;

@@ -6,7 +6,6 @@ use crate::inputs::{detour, detour_answer, drawn, query_table, text_of};
 use grape_disk::MemDisk;
 use grape_port::NoMemory;
 use grape_run::Status;
-use std::ops::Range;
 use std::process::Abort;
 use std::sync::Wait;
 use std::test::Fail;
@@ -33,18 +32,16 @@ pub(crate) fn resume_from<R: Abort + Threads + Wait + Sync + AllocGlobal>(
     Ok(start)
 }
 
-/// Resumes the run of a text from so many images of a disk, from the one with this number on. Says how many began at a
-/// snapshot.
+/// Resumes the run of a text from each image of a disk. Says how many began at a snapshot.
 pub(crate) fn resume_each<R: Abort + Threads + Wait + Sync + AllocGlobal>(
     rt: &R,
     text: &[u8],
     disk: &MemDisk,
-    numbers: Range<u64>,
     last: u64,
     want: &[u8],
 ) -> Result<u64, NoMemory> {
     let mut resumed = 0_u64;
-    for number in numbers {
+    for number in 0..IMAGES {
         let image = image_by(rt.alloc(), disk, number)?;
         if resume_from(rt, text, &image, last, want)? > 0 {
             resumed = resumed.saturating_add(1);
@@ -64,12 +61,11 @@ fn stopped_at<R: Threads + Wait + Sync + AllocGlobal>(
     Ok((left, disk))
 }
 
-/// Stops the run of a text at each call of the disk in turn, and resumes so many images of each, until a run has no such
-/// call. Says how many began at a snapshot.
+/// Stops the run of a text at each call of the disk in turn, and resumes each image, until a run has no such call. Says
+/// how many began at a snapshot.
 fn stop_at_each<R: Abort + Threads + Wait + Sync + AllocGlobal>(
     rt: &R,
     text: &[u8],
-    images: u64,
     want: &[u8],
 ) -> Result<u64, NoMemory> {
     let mut resumed = 0_u64;
@@ -81,8 +77,7 @@ fn stop_at_each<R: Abort + Threads + Wait + Sync + AllocGlobal>(
         }
         check_disk_fault(rt, &left);
         let last = last_kept(&left).unwrap_or(0);
-        let numbers = stop..stop.saturating_add(images);
-        let more = resume_each(rt, text, &disk, numbers, last, want)?;
+        let more = resume_each(rt, text, &disk, last, want)?;
         resumed = resumed.saturating_add(more);
     }
     panic!(rt; "no run was done")
@@ -90,7 +85,7 @@ fn stop_at_each<R: Abort + Threads + Wait + Sync + AllocGlobal>(
 
 #[test]
 fn a_worked_run_goes_on_from_each_stop(rt: HostRuntime) -> Result<(), Fail> {
-    let resumed = stop_at_each(&rt, detour(), IMAGES, detour_answer())?;
+    let resumed = stop_at_each(&rt, detour(), detour_answer())?;
     assert!(rt; resumed > 0);
     Ok(())
 }
@@ -110,22 +105,21 @@ pub(crate) fn plain_answer<R: Abort + Threads + Wait + Sync + AllocGlobal>(
     Ok(answer)
 }
 
-/// Stops runs of each query on a drawn graph under these settings, with snapshots after one Take, after two and after
-/// five, and resumes so many images of each stop.
+/// Stops runs of each query on a graph that a number draws, under these settings, with snapshots after one Take, after
+/// two and after five.
 fn check_drawn<R: Abort + Threads + Wait + Sync + AllocGlobal>(
     rt: &R,
     settings: &str,
-    seed: u64,
-    images: u64,
+    number: u64,
 ) -> Result<(), NoMemory> {
     let alloc = rt.alloc();
-    let lines = drawn(alloc, seed, 8)?;
+    let lines = drawn(alloc, number, 5)?;
     for query in query_table() {
         let want = plain_answer(rt, query, lines.as_str())?;
         let mut resumed = 0_u64;
         for snapshot in [1, 2, 5] {
             let text = text_of(alloc, settings, snapshot, query, lines.as_str())?;
-            let more = stop_at_each(rt, text.as_bytes(), images, &want)?;
+            let more = stop_at_each(rt, text.as_bytes(), &want)?;
             resumed = resumed.saturating_add(more);
         }
         assert!(rt; resumed > 0, "of {query}");
@@ -135,18 +129,18 @@ fn check_drawn<R: Abort + Threads + Wait + Sync + AllocGlobal>(
 
 #[test]
 fn one_lane_goes_on_from_each_stop(rt: HostRuntime) -> Result<(), Fail> {
-    check_drawn(&rt, "fragments 3\nlanes 1\npolicy ap\n", 3, IMAGES)?;
+    check_drawn(&rt, "fragments 3\nlanes 1\npolicy ap\n", 3)?;
     Ok(())
 }
 
 #[test]
 fn two_lanes_go_on_from_each_stop(rt: HostRuntime) -> Result<(), Fail> {
-    check_drawn(&rt, "fragments 4\nlanes 2\ncut range\n", 5, 1)?;
+    check_drawn(&rt, "fragments 3\nlanes 2\ncut range\n", 5)?;
     Ok(())
 }
 
 #[test]
 fn four_lanes_go_on_from_each_stop(rt: HostRuntime) -> Result<(), Fail> {
-    check_drawn(&rt, "fragments 5\nlanes 4\npolicy bsp\n", 7, 1)?;
+    check_drawn(&rt, "fragments 4\nlanes 4\npolicy bsp\n", 7)?;
     Ok(())
 }
