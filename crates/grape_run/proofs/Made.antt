@@ -1,17 +1,19 @@
 -- What a command made of its job.
 use Rattle.std.proofs.Common.{◌≡◌, inl, inr, refl, sym, subst, ℕ, List, Bool, Option, Some, None, Ok}
+use Rattle.grape_port.specs.Ports.{Appends, AppendsFront}
 use Rattle.graph_core.specs.declared.job.Job.{Job}
 use Rattle.graph_core.specs.Graphs.{IsJob}
 use Rattle.graph_core.specs.Parts.{FragmentLists}
 use Rattle.grape_event.specs.declared.event.Event.TheVariants.{End}
 use Rattle.grape_event.specs.declared.event.StopCause.TheVariants.{Disk, Memory}
+use Rattle.answer_text.specs.AnswerTable.{AnswerTable}
 use Rattle.answer_text.specs.AnswerText.{answer_text, IsAnswerText}
 use Rattle.coordinator.specs.Runs.{EndsBy}
 use Rattle.coordinator.specs.declared.ran.Ran.{Ran}
 use Rattle.coordinator.specs.declared.ran.Ran.TheVariants as ran
 use Rattle.coordinator.specs.declared.story.Story.{Story}
 use Rattle.grape_run.specs.Resuming.{IsFitStart}
-use Rattle.grape_run.specs.Commands.{RefusesFor, IsStoryFor, TellsStory, IsAnswerFor, KeepsState}
+use Rattle.grape_run.specs.Commands.{RefusesFor, IsStoryFor, TellsStory, IsAnswerFor, KeepsState, HasDone}
 use Rattle.grape_run.specs.Entering.{IsUnanswered, CountsFor, IsLegalRan, RanCounts, story_of, IsStoryIf, HasTried}
 use Rattle.grape_run.specs.Answered.{finished, IsAnswered, IsOutcomeOf, HasMade, status_in}
 use Rattle.grape_run.specs.declared.answers.Outcome.{Outcome}
@@ -77,6 +79,17 @@ module _ {D : Type 0} (content : D → Option (List ℕ)) (images : D → ℕ �
       subst (Made m job digest old new) (sym h) (tt, tt, (tried.0, inr tried.1), tried.2)
   made_of m job digest fragments ran.NoMemory outcome old new is_job tried h =
       subst (Made m job digest old new) (sym h) (tt, tt, tt, tried.2)
+
+  -- the answer was written, or a front of it
+  pub done : (m : Mode) (job : Job) (digest : List ℕ) (answer : AnswerTable) (story : Story) (before after : Option (List ℕ)) (old new : D) → HasMade content images moment honest m job digest (Answered answer story) old new →
+      Appends before (answer_text answer.kind answer.rows) after → HasDone content images moment honest m job digest status.Done (Some story) before after old new
+  done m job digest answer story before after old new made written =
+      record { refused = tt; tells = (made.0, made.1); written = (answer_text answer.kind answer.rows, made.2, written); state = made.3 }
+
+  pub done_in_part : (m : Mode) (job : Job) (digest : List ℕ) (answer : AnswerTable) (story : Story) (before after : Option (List ℕ)) (old new : D) → HasMade content images moment honest m job digest (Answered answer story) old new →
+      AppendsFront before (answer_text answer.kind answer.rows) after → HasDone content images moment honest m job digest status.WriteFault (Some story) before after old new
+  done_in_part m job digest answer story before after old new made written =
+      record { refused = tt; tells = (made.0, made.1); written = (answer_text answer.kind answer.rows, made.2, written); state = made.3 }
 
 -- ---- the count of the disk's faults
 

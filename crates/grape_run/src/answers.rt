@@ -1,4 +1,4 @@
-ghost use Rattle.std.specs.Prelude.{◌≡◌, ◌⊎◌, ◌≤◌, IsTrue};
+ghost use Rattle.std.specs.Prelude.{◌≡◌, ◌≤◌};
 ghost use Rattle.graph_core.specs.Graphs.{IsJob};
 ghost use Rattle.graph_core.specs.Fragments.{fragments_of};
 ghost use Rattle.coordinator.specs.Runs.{IsStoryOf};

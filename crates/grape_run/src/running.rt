@@ -47,11 +47,7 @@ pub(crate) fn run_from<R: Threads + Wait + Sync, D: Disk, G: Gate + Sync>(
 {
     claims_add_up(disk);
     match enter(alloc, mode, job, shape, bytes, disk) {
-        Ok(entry) => {
-            Ok(ran_by(
-                rt, alloc, job, fragments, shape, entry, disk, pacers, gate,
-            ))
-        }
+        Ok(entry) => { Ok(ran_by(rt, alloc, job, fragments, shape, entry, disk, pacers, gate)) }
         Err(status) => Err(status),
     }
 }
