@@ -1,5 +1,5 @@
 -- The fresh snapshot of a job's shape is the one with which a run begins.
-use Rattle.std.proofs.Common.{◌≡◌, ◌⊎◌, inl, inr, ℕ, ◌%◌, sym, refl, ◌∙◌, ap, subst, List, [], ◌∷◌, length, map}
+use Rattle.std.proofs.Common.{◌≡◌, inl, inr, ℕ, ◌%◌, sym, refl, ◌∙◌, ap, subst, List, [], ◌∷◌, length, map}
 use Rattle.std.proofs.lemmas.List.{map-append, length-map}
 use Rattle.std.proofs.lemmas.Simd.{splat_is_map}
 use Rattle.value_order.specs.declared.TheConstants.{NOTHING}

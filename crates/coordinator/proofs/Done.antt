@@ -1,5 +1,5 @@
 -- The values of a run that is done are the greatest solution.
-use Rattle.std.proofs.Common.{◌≡◌, ℕ, true, sym, ◌∙◌, ap, subst, List, length, slice_index}
+use Rattle.std.proofs.Common.{ℕ, ◌∙◌, ap, subst, List, length, slice_index}
 use Rattle.graph_core.specs.declared.job.Job.{Job}
 use Rattle.graph_core.specs.Graphs.{IsJob}
 use Rattle.graph_core.proofs.Lawful.{lawful}
@@ -14,8 +14,7 @@ use Rattle.base_machine.proofs.Quiet.{confluence_from}
 use Rattle.legal_journal.specs.BaseEvents.{base_of}
 use Rattle.legal_journal.specs.Legal.{State, state_at_end, IsLegal}
 use Rattle.legal_journal.specs.Theorems.{EndIsQuiet, JournalRuns, JournalsGrow}
-use Rattle.coordinator.specs.declared.story.Story.{Story}
-use Rattle.coordinator.specs.Runs.{IsStoryOf, EndsBy, DoneIsTheAnswer, DoneIsQuiet}
+use Rattle.coordinator.specs.Runs.{DoneIsTheAnswer, DoneIsQuiet}
 use Rattle.coordinator.proofs.Settled.{same_values}
 
 -- nobody runs and nothing waits at the end

@@ -1,10 +1,10 @@
 -- A run in which a sealed snapshot waits doesn't end by End.
-use Rattle.std.proofs.Common.{◌≡◌, true, false, not, ◌&&◌, IsTrue, sym, ◌∙◌, ap, subst, List, [], ◌∷◌, ◌++◌, None}
+use Rattle.std.proofs.Common.{◌≡◌, not, ◌∙◌, ap, subst, List, None}
 use Rattle.std.proofs.lemmas.Bool.{and_parts}
 use Rattle.grape_event.specs.declared.event.Event.{Event}
 use Rattle.grape_event.specs.declared.event.Event.TheVariants.{End}
 use Rattle.legal_journal.specs.Past.{has_ended, all_have_answered, all_begun_are_kept}
-use Rattle.legal_journal.specs.Legal.{State, start_state, state_at_end, worker_count, row_admits, may_end, IsLegal}
+use Rattle.legal_journal.specs.Legal.{State, start_state, state_at_end, worker_count, row_admits, IsLegal}
 use Rattle.legal_journal.proofs.Walks.{kept_along, journals_grow}
 use Rattle.grape_hub.specs.HubValues.{HubValues}
 use Rattle.grape_hub.specs.States.{machine, state_of, sealed_epoch, IsHub}

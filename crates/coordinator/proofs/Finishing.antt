@@ -19,8 +19,8 @@ use Rattle.grape_hub.specs.Notes.{is_stopped_by_disk}
 use Rattle.grape_hub.specs.Theorems.{KeptsFollowSeals, NothingIsSealed}
 use Rattle.grape_hub.proofs.Snapshots.{SnapshotsAreInTurn, turn_kept, begins_in_turn}
 use Rattle.coordinator.specs.Shapes.{shape_of}
-use Rattle.coordinator.specs.Runs.{EndsBy, HasUsed}
-use Rattle.coordinator.specs.Keeping.{cuts_in, digest_in, last_in, IsGoing, IsOver, KeepsOn, ComesTo}
+use Rattle.coordinator.specs.Runs.{EndsBy}
+use Rattle.coordinator.specs.Keeping.{cuts_in, last_in, IsOver, ComesTo}
 use Rattle.coordinator.specs.Leaving.{IsWaiting, LeavesHub}
 use Rattle.coordinator.specs.Visits.{Finishes}
 use Rattle.coordinator.specs.declared.keeper.Keeper.{Keeper}

@@ -1,11 +1,11 @@
 -- What an event leaves of a run that keeps its snapshots.
-use Rattle.std.proofs.Common.{◌≡◌, ℕ, zero, suc, ◌+◌, ◌≤◌, ◌⊎◌, inl, inr, Bool, true, false, MatchBool, IsTrue, refl, sym, ◌∙◌, ap, subst, arith, List, [], ◌∷◌, ◌++◌, append-nil, append_assoc, map, length, Option, Some, None, reverse}
+use Rattle.std.proofs.Common.{◌≡◌, ℕ, zero, suc, ◌+◌, ◌≤◌, inl, inr, Bool, true, false, refl, sym, ◌∙◌, ap, subst, arith, List, [], ◌∷◌, ◌++◌, append-nil, length, Option, Some, None, reverse}
 use Rattle.std.proofs.lemmas.Bool.{false≢true, MatchBool-at_false}
 use Rattle.std.proofs.lemmas.List.{map-append, length-append, reverse-append}
 use Rattle.grape_port.specs.Ports.{Rose}
 use Rattle.graph_core.specs.declared.job.Job.{Job}
 use Rattle.grape_event.specs.declared.event.Event.{Event}
-use Rattle.grape_event.specs.declared.event.Event.TheVariants.{Take, Give, Stretch, Hold, Flag, Ask, Ack, Nack, Begin, Mark, Seal, Kept, End, Stop}
+use Rattle.grape_event.specs.declared.event.Event.TheVariants.{Seal, Kept, End, Stop}
 use Rattle.grape_event.specs.Events.{is_last}
 use Rattle.grape_event.specs.declared.event.StopCause.{StopCause}
 use Rattle.grape_event.specs.declared.event.StopCause.TheVariants.{Disk, Memory}
@@ -28,7 +28,7 @@ use Rattle.grape_hub.proofs.NotesStay.{sealed_more}
 use Rattle.coordinator.specs.Shapes.{shape_of}
 use Rattle.coordinator.specs.Runs.{EndsBy, HasLast, HasUsed}
 use Rattle.coordinator.specs.Turns.{HasNoDiskStop}
-use Rattle.coordinator.specs.Keeping.{cuts_in, last_sealed, digest_in, last_in, HasSizesFor, HasKept, HasNoted, IsSealedNext, IsGoing, IsOver, FailsOnlySo, KeepsOn, ComesTo}
+use Rattle.coordinator.specs.Keeping.{cuts_in, digest_in, last_in, HasSizesFor, HasKept, HasNoted, IsSealedNext, IsGoing, IsOver, FailsOnlySo, KeepsOn, ComesTo}
 use Rattle.coordinator.specs.declared.keeper.Keeper.{Keeper}
 use Rattle.coordinator.proofs.Causes.{is_disk, stopped_last}
 

@@ -1,9 +1,8 @@
 -- What a Seal leaves to be kept.
-use Rattle.std.proofs.Common.{◌≡◌, ℕ, ◌+◌, ◌%◌, ◌≤◌, Bool, true, false, ◌==◌, if◌then◌else◌, refl, sym, ◌∙◌, ap, subst, arith, List, [], ◌∷◌, ◌++◌, map, length, Option, Some, None, length-append}
+use Rattle.std.proofs.Common.{◌≡◌, ℕ, ◌+◌, ◌%◌, Bool, true, false, ◌==◌, if◌then◌else◌, sym, ◌∙◌, ap, subst, arith, List, [], ◌∷◌, ◌++◌, map, length, Option, Some, None}
 use Rattle.std.specs.List.{Contains}
 use Rattle.std.proofs.lemmas.List.{map-append, length-map}
 use Rattle.std.proofs.lemmas.List.Elements.{Contains-push}
-use Rattle.std.proofs.lemmas.Bool.{cases_Bool}
 use Rattle.graph_core.specs.declared.job.Job.{Job}
 use Rattle.grape_event.specs.declared.event.Event.{Event}
 use Rattle.grape_event.specs.declared.event.Event.TheVariants.{Seal}
@@ -13,13 +12,11 @@ use Rattle.base_machine.specs.Machine.{System, system_of}
 use Rattle.legal_journal.specs.Legal.{State, start_state, state_after, IsLegal}
 use Rattle.legal_journal.specs.Cuts.{sealed_from, sealed_snapshot, sealed_snapshots, FollowOn}
 use Rattle.legal_journal.specs.Theorems.{EpochsFollow, SealsAdd}
-use Rattle.grape_hub.specs.HubValues.{HubValues}
-use Rattle.grape_hub.specs.States.{machine, state_of, sealed_epoch, IsHub}
-use Rattle.grape_hub.specs.Calls.{Appended}
+use Rattle.grape_hub.specs.States.{machine, sealed_epoch}
 use Rattle.grape_hub.specs.Theorems.{SealedMayBeResumed}
 use Rattle.grape_hub.proofs.Hubs.{state_grown}
 use Rattle.coordinator.specs.Shapes.{shape_of, FormsAgree}
-use Rattle.coordinator.specs.Keeping.{cuts_in, last_sealed, IsSealedNext, SealsMayBeKept}
+use Rattle.coordinator.specs.Keeping.{cuts_in, last_sealed, SealsMayBeKept}
 
 -- the snapshot that is found has the epoch by which it is found
 named_from : (sys : System) (journal : List Event) (s : State) (epoch : ℕ) (x : SnapshotParts) → sealed_from sys s epoch journal ≡ Some x → x.epoch ≡ epoch

@@ -1,5 +1,5 @@
 -- What the coordinator's turns come to, and what it leaves.
-use Rattle.std.proofs.Common.{◌≡◌, ℕ, ◌+◌, ◌%◌, ◌≤◌, ◌⊎◌, inl, inr, Bool, true, false, IsTrue, refl, sym, ◌∙◌, ap, subst, arith, List, [], ◌∷◌, ◌++◌, length, Option, Some, None}
+use Rattle.std.proofs.Common.{◌≡◌, ℕ, ◌%◌, ◌⊎◌, inl, inr, Bool, true, false, IsTrue, refl, sym, ◌∙◌, ap, subst, arith, List, [], ◌∷◌, ◌++◌, Option, Some, None}
 use Rattle.std.proofs.lemmas.Bool.{false≢true}
 use Rattle.std.proofs.lemmas.List.{map-append}
 use Rattle.grape_port.specs.Ports.{Rose}
@@ -20,24 +20,15 @@ use Rattle.lane_loop.specs.declared.served.Served.{Served}
 use Rattle.lane_loop.specs.declared.served.Served.TheVariants.{Did, Idle, Ended}
 use Rattle.coordinator.specs.Shapes.{shape_of}
 use Rattle.coordinator.specs.Runs.{HasUsed, HasLast}
-use Rattle.coordinator.specs.Keeping.{cuts_in, digest_in, last_in, HasSizesFor, HasKept, HasNoted, KeepsOn, ComesTo}
+use Rattle.coordinator.specs.Keeping.{cuts_in, digest_in, last_in, HasSizesFor, HasKept, KeepsOn, ComesTo}
 use Rattle.coordinator.specs.Leaving.{IsWaiting, IsNoteOf, LeavesNote, LeavesHub}
-use Rattle.coordinator.specs.Visits.{AnswersAsLeft, IsSealedAfter, DutyNotes, MayPut, LeavesFrom, TurnLeavesNote, PutLeavesNote}
+use Rattle.coordinator.specs.Visits.{AnswersAsLeft, IsSealedAfter, DutyNotes, MayPut, LeavesFrom, TurnLeavesNote}
 use Rattle.coordinator.specs.declared.keeper.Keeper.{Keeper}
 use Rattle.coordinator.specs.declared.leave.Leave.{Leave}
 use Rattle.coordinator.specs.declared.leave.Leave.TheVariants.{AllKept, Waits}
 use Rattle.coordinator.proofs.Visits.{told}
 use Rattle.coordinator.proofs.Sizing.{slot_sizes}
 use Rattle.coordinator.proofs.Going.{has_last, kept_more, sealed_keeps, sealed_comes}
-
--- the store goes on to the epoch that waits to be put
-pub put_next : (job : Job) (start : SnapshotParts) (cuts : List SnapshotParts) (epoch : ℕ) (note : List ℕ) (keeper : Keeper) → MayPut job start cuts epoch note keeper → HasLast (last_in keeper.store) keeper.store × (keeper.into.epoch ≡ last_in keeper.store + 1)
-put_next job start cuts epoch note keeper may =
-    let last = has_last (start.epoch + length cuts) keeper.store (may.kept.store may.sealed.asked) in
-    let named = may.sealed.named in
-    let next = may.sealed.next in
-    let is = last.1 in
-    (last.0, omega (arith, named, next, is))
 
 module _ {D : Type 0} (content : D → Option (List ℕ)) (images : D → ℕ → List ℕ → Type 0) (moment faults : D → ℕ) (honest : D → Bool) (job : Job) (shape : Starts) (same : shape ≡ shape_of job) (keeper kept : Keeper) (old new : D) where
   -- after a put and its Kept
@@ -167,10 +158,6 @@ pub idle_goes_on : Idle ≡ Ended → ⊥
 idle_goes_on h = false≢true (ap has_ended h)
 
 module _ {D : Type 0} (content : D → Option (List ℕ)) (images : D → ℕ → List ℕ → Type 0) (moment faults : D → ℕ) (honest : D → Bool) (job : Job) (keeper : Keeper) (old : D) where
-  -- at the beginning
-  pub leaves_begin : (start : SnapshotParts) (note : List ℕ) → IsNoteOf job start None false [] note → HasKept job start [] keeper → LeavesNote content images moment faults honest job keeper old AllKept note keeper old
-  leaves_begin start note is has = (start, [], is, has, refl, λ h file began m. m)
-
   -- one turn more
   pub leaves_on : (mid : Keeper) (between : D) (leave : Leave) (before note : List ℕ) (kept : Keeper) (new : D) → LeavesNote content images moment faults honest job keeper old AllKept before mid between →
       digest_in mid.store ≡ digest_in keeper.store → honest between ≡ honest old → TurnLeavesNote content images moment faults honest job mid between leave before note kept new →

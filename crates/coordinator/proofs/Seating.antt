@@ -11,9 +11,9 @@ use Rattle.noted_lock.specs.declared.seat.LockSeat.{LockSeat}
 use Rattle.noted_lock.specs.Sights.{seat_lock, seat_number, seat_note, AreSeats}
 use Rattle.grape_hub.specs.LanedHub.{LanedHub, IsLanedHub, is_out_at}
 use Rattle.grape_hub.specs.Notes.{ground_of, ground_in, own_in, note_of, HasNoWork}
-use Rattle.grape_hub.specs.Theorems.{GroundsTell, NotesBegin, EmptyIsFree, WaitsAmong}
+use Rattle.grape_hub.specs.Theorems.{GroundsTell, NotesBegin, EmptyIsFree}
 use Rattle.coordinator.specs.Leaving.{IsNoteOf}
-use Rattle.coordinator.specs.Seats.{IsSeatOfRun, HoldsSeat, AreSeatsOfRun, note_in}
+use Rattle.coordinator.specs.Seats.{IsSeatOfRun, HoldsSeat, AreSeatsOfRun}
 use Rattle.coordinator.proofs.Causes.{past_is_empty}
 
 module _ {A : Type 0} (P : ℕ → A → Type 0) where

@@ -6,7 +6,7 @@ use Rattle.value_order.specs.declared.TheConstants.{NOTHING}
 use Rattle.value_order.specs.declared.order.Order.{Order}
 use Rattle.graph_core.specs.declared.job.Job.{Job}
 use Rattle.graph_core.specs.Queries.{equations_of}
-use Rattle.graph_core.specs.Fragments.{Piece, places, numbers_below, owned_of, mirrors_of, piece_of, fragment_of}
+use Rattle.graph_core.specs.Fragments.{places, numbers_below, owned_of, mirrors_of, piece_of, fragment_of}
 use Rattle.token_cut.specs.Parts.{PartValues, SnapshotParts}
 use Rattle.token_cut.specs.Shapes.{PartStarts, Starts, sizes_of, sizes_in, fresh_part, fresh_snapshot}
 use Rattle.token_cut.specs.Form.{IsPartInSlotForm, IsInSlotForm}

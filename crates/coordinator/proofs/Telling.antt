@@ -1,5 +1,5 @@
 -- How a run that has ended is told.
-use Rattle.std.proofs.Common.{◌≡◌, ◌⊎◌, inl, inr, ℕ, Bool, true, false, refl, sym, ◌∙◌, ap, subst, List, [], Option, Some, None, reverse}
+use Rattle.std.proofs.Common.{◌≡◌, ◌⊎◌, inl, inr, ℕ, sym, ◌∙◌, ap, subst, List, [], Option, Some, None, reverse}
 use Rattle.std.proofs.lemmas.Bool.{false≢true}
 use Rattle.grape_port.specs.Ports.{Rose}
 use Rattle.graph_core.specs.declared.job.Job.{Job}

@@ -1,5 +1,5 @@
 -- One turn of the lane.
-use Rattle.std.proofs.Common.{◌≡◌, ℕ, ◌<◌, ◌⊎◌, inl, inr, Bool, true, false, MatchBool, Option, Some, refl, sym, ◌∙◌, ap, subst, arith, List, [], ◌∷◌, length, reverse, slice_index_or, length-append}
+use Rattle.std.proofs.Common.{◌≡◌, ℕ, ◌<◌, inl, inr, Bool, true, false, MatchBool, Option, refl, sym, ◌∙◌, ap, subst, arith, List, [], ◌∷◌, length, reverse, slice_index_or, length-append}
 use Rattle.std.proofs.lemmas.Bool.{false≢true, MatchBool-at_false}
 use Rattle.std.proofs.lemmas.List.{reverse-append, get_or-set_same}
 use Rattle.graph_core.specs.declared.job.Job.{Job}
@@ -9,7 +9,7 @@ use Rattle.grape_event.specs.declared.event.StopCause.TheVariants.{Memory}
 use Rattle.grape_event.specs.Events.{is_take}
 use Rattle.token_cut.specs.Parts.{SnapshotParts}
 use Rattle.legal_journal.specs.Past.{has_ended}
-use Rattle.legal_journal.specs.Choices.{is_duty, duty_choice}
+use Rattle.legal_journal.specs.Choices.{is_duty}
 use Rattle.legal_journal.specs.Theorems.{DutiesAreExact}
 use Rattle.grape_hub.specs.declared.work.Work.{Work}
 use Rattle.grape_hub.specs.declared.work.Duty.TheVariants.{Did}

@@ -1,5 +1,5 @@
 -- What a visit of the hub leaves of the coordinator's note.
-use Rattle.std.proofs.Common.{◌≡◌, ℕ, ◌+◌, ◌<◌, ◌≤◌, Bool, true, false, not, MatchBool, refl, sym, ◌∙◌, ap, subst, arith, ◌%◌, List, [], ◌∷◌, ◌++◌, length, reverse, Option, Some, None}
+use Rattle.std.proofs.Common.{◌≡◌, ℕ, ◌+◌, ◌≤◌, Bool, true, false, not, MatchBool, refl, sym, ◌∙◌, ap, subst, arith, ◌%◌, List, [], ◌∷◌, ◌++◌, length, reverse, Option, Some, None}
 use Rattle.std.proofs.lemmas.Bool.{false≢true}
 use Rattle.graph_core.specs.declared.job.Job.{Job}
 use Rattle.grape_event.specs.declared.event.Event.{Event}
@@ -8,26 +8,23 @@ use Rattle.grape_event.specs.declared.event.StopCause.{StopCause}
 use Rattle.grape_event.specs.declared.event.StopCause.TheVariants.{Disk, Memory}
 use Rattle.token_cut.specs.Parts.{SnapshotParts}
 use Rattle.token_cut.specs.Form.{IsInSlotForm}
-use Rattle.base_machine.specs.Machine.{system_of}
 use Rattle.legal_journal.specs.Past.{has_ended}
-use Rattle.legal_journal.specs.Choices.{is_duty, duty_choice}
-use Rattle.legal_journal.specs.Legal.{State, start_state}
-use Rattle.legal_journal.specs.Cuts.{sealed_snapshots}
+use Rattle.legal_journal.specs.Choices.{is_duty}
+use Rattle.legal_journal.specs.Legal.{State}
 use Rattle.legal_journal.proofs.Choosing.{duties_are_exact}
 use Rattle.grape_hub.specs.HubValues.{HubValues}
-use Rattle.grape_hub.specs.States.{machine, state_of, sealed_epoch, IsHub}
+use Rattle.grape_hub.specs.States.{machine, state_of, sealed_epoch}
 use Rattle.grape_hub.specs.declared.work.Duty.{Duty}
 use Rattle.grape_hub.specs.declared.work.Duty.TheVariants as duty
-use Rattle.grape_hub.specs.Calls.{Appended, AppendedUnlessEnded, Unchanged, ChoosesDuty, WritesSealed, is_seal}
+use Rattle.grape_hub.specs.Calls.{Appended, Unchanged, ChoosesDuty, WritesSealed, is_seal}
 use Rattle.grape_hub.specs.LanedHub.{LanedHub, IsLanedHub}
 use Rattle.grape_hub.specs.Notes.{is_stopped_by_disk, numbers_of_cuts, ground_of, ground_in, own_in, note_of}
 use Rattle.grape_hub.specs.Theorems.{GroundsTell, NotesBegin, CutsTell, WaitsAmong, NothingIsSealed}
 use Rattle.grape_hub.proofs.Hubs.{past_of, state_grown}
-use Rattle.lane_loop.specs.Turns.{StopsForMemory}
 use Rattle.coordinator.specs.Shapes.{shape_of}
 use Rattle.coordinator.specs.Keeping.{cuts_in, SealsMayBeKept}
 use Rattle.coordinator.specs.Leaving.{IsNoteOf}
-use Rattle.coordinator.specs.Visits.{ChoosesDutyOrStops, IsSealedAfter, DutyNotes, DutyLeaves, waiting_after, KeptLeaves, StopLeaves}
+use Rattle.coordinator.specs.Visits.{ChoosesDutyOrStops, DutyNotes, DutyLeaves, KeptLeaves, StopLeaves}
 use Rattle.coordinator.proofs.Causes.{disk_after, duty_no_disk}
 use Rattle.coordinator.proofs.Going.{cuts_after, stayed_unchanged}
 

@@ -1,11 +1,9 @@
 -- What a run that keeps its snapshots has sealed, and what it may keep next.
-use Rattle.std.specs.Prelude.{◌≡◌, ◌⊎◌, ℕ, ◌+◌, ◌*◌, ◌%◌, ◌≤◌, true, false, Bool, MatchBool, List, [], ◌∷◌, ◌++◌, Option, Some, None, map, length, reverse}
+use Rattle.std.specs.Prelude.{◌≡◌, ◌⊎◌, ℕ, ◌+◌, ◌%◌, ◌≤◌, true, false, Bool, MatchBool, List, [], ◌∷◌, ◌++◌, Option, Some, None, map, length, reverse}
 use Rattle.grape_port.specs.Ports.{Rose}
 use Rattle.graph_core.specs.declared.job.Job.{Job}
 use Rattle.graph_core.specs.Fragments.{places}
-use Rattle.grape_event.specs.declared.event.Event.TheVariants.{Seal, Kept, Stop, End}
-use Rattle.grape_event.specs.declared.event.StopCause.{StopCause}
-use Rattle.grape_event.specs.declared.event.StopCause.TheVariants.{Disk}
+use Rattle.grape_event.specs.declared.event.Event.TheVariants.{Seal, End}
 use Rattle.token_cut.specs.Parts.{SnapshotParts}
 use Rattle.token_cut.specs.Shapes.{sizes_of}
 use Rattle.token_cut.specs.Form.{IsInSlotForm}

@@ -1,5 +1,5 @@
 -- What a run tells.
-use Rattle.std.specs.Prelude.{◌≡◌, ℕ, ◌+◌, ◌≤◌, List, [], ◌∷◌, ◌++◌, Bool, true, IsTrue, ⊤, length, slice_index, Option, Some, None}
+use Rattle.std.specs.Prelude.{◌≡◌, ℕ, ◌≤◌, List, [], ◌∷◌, ◌++◌, Bool, true, IsTrue, ⊤, length, slice_index, Option, Some, None}
 use Rattle.std.specs.List.{AllZip}
 use Rattle.graph_core.specs.declared.job.Job.{Job}
 use Rattle.graph_core.specs.Graphs.{IsJob}
@@ -15,7 +15,7 @@ use Rattle.grape_event.specs.declared.event.StopCause.TheVariants.{Disk}
 use Rattle.grape_event.specs.Events.{is_last}
 use Rattle.token_cut.specs.Parts.{SnapshotParts}
 use Rattle.base_machine.specs.Machine.{system_of, base_state_of}
-use Rattle.base_machine.specs.Fitness.{is_quiet, IsFit, IsInForm}
+use Rattle.base_machine.specs.Fitness.{is_quiet, IsFit}
 use Rattle.legal_journal.specs.Legal.{state_at_end, IsLegal}
 use Rattle.legal_journal.specs.Cuts.{sealed_snapshots, epochs_kept}
 use Rattle.grape_disk.specs.Images.{AtRest}

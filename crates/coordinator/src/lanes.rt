@@ -581,9 +581,9 @@ fn coordinator_turn<R: Wait, P: Pie, D: Disk, Q: Pacer, G: Gate>(
         Duty::Did(_) => (Leave::AllKept, Served::Did, own, first),
         Duty::Sealed(epoch) => match keep_sealed(rt, lock, own, job, shape, epoch, keeper, disk) {
             (Leave::AllKept, own) => (Leave::AllKept, Served::Did, own, first),
-            (Leave::Waits(cause), own) => {
+            (Leave::Waits(why), own) => {
                 let LaneEnd { seat } = lane(rt, lock, first, 0, program, fragments, gate);
-                (Leave::Waits(cause), Served::Ended, own, seat)
+                (Leave::Waits(why), Served::Ended, own, seat)
             }
         },
         Duty::Nothing | Duty::Ended | Duty::NoMemory => {

@@ -1,7 +1,6 @@
 use Rattle.std.proofs.Common.{◌≡◌, List, [], refl, ◌∙◌, ap, subst}
 use Rattle.graph_core.specs.declared.job.Job.{Job}
 use Rattle.base_machine.specs.Machine.{system_of}
-use Rattle.grape_event.specs.declared.event.Event.{Event}
 use Rattle.token_cut.specs.Parts.{SnapshotParts}
 use Rattle.legal_journal.specs.Cuts.{sealed_snapshots}
 use Rattle.coordinator.specs.Runs.{HasRun, HasUsed}

@@ -1,7 +1,7 @@
-use Rattle.std.proofs.Common.{◌≡◌, ◌<◌, ℕ, List, sym, ◌∙◌, ap, subst}
+use Rattle.std.proofs.Common.{◌<◌, ℕ, List, sym, ◌∙◌, ap, subst}
 use Rattle.noted_lock.specs.Sights.{lock_id, seat_note}
 use Rattle.grape_hub.specs.LanedHub.{LanedHub}
-use Rattle.grape_hub.specs.Notes.{note_of, ground_in}
+use Rattle.grape_hub.specs.Notes.{note_of}
 use Rattle.coordinator.specs.Visits.{NothingWaits, DutyLeaves}
 use Rattle.coordinator.proofs.Visits.{duty_ground}
 use Rattle.coordinator.proofs.Seating.{note_here, coordinator_seat}

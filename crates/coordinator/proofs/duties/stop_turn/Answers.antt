@@ -1,7 +1,7 @@
-use Rattle.std.proofs.Common.{◌≡◌, ◌<◌, ℕ, List, sym, ◌∙◌, ap, subst}
+use Rattle.std.proofs.Common.{◌<◌, ℕ, List, sym, ◌∙◌, ap, subst}
 use Rattle.noted_lock.specs.Sights.{lock_id, seat_note}
 use Rattle.grape_hub.specs.LanedHub.{LanedHub}
-use Rattle.grape_hub.specs.Notes.{note_of, ground_in}
+use Rattle.grape_hub.specs.Notes.{note_of}
 use Rattle.coordinator.specs.Visits.{EpochWaits, StopLeaves}
 use Rattle.coordinator.proofs.Seating.{note_here, coordinator_seat}
 use Rattle.coordinator.proofs.duties.stop_turn.Goals as goal

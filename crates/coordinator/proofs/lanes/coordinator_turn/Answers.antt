@@ -1,4 +1,4 @@
-use Rattle.std.proofs.Common.{rules, refl, sym, ◌∙◌, subst}
+use Rattle.std.proofs.Common.{rules, refl, ◌∙◌, subst}
 use Rattle.noted_lock.specs.Sights.{seat_note}
 use Rattle.coordinator.specs.Visits.{LeavesFrom}
 use Rattle.coordinator.specs.declared.leave.Leave.{Leave}

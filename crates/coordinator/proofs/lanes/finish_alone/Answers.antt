@@ -1,7 +1,6 @@
-use Rattle.std.proofs.Common.{◌≡◌, false, MatchBool, sym, ◌∙◌, ap, subst, reverse}
+use Rattle.std.proofs.Common.{◌≡◌, false, sym, ◌∙◌, ap, subst, reverse}
 use Rattle.std.proofs.lemmas.Bool.{MatchBool-at_false}
 use Rattle.grape_event.specs.JournalList.{JournalList}
-use Rattle.grape_event.specs.declared.event.Event.TheVariants.{Stop}
 use Rattle.legal_journal.specs.Past.{has_ended}
 use Rattle.coordinator.specs.Visits.{Finishes}
 use Rattle.coordinator.specs.declared.leave.Leave.{Leave}

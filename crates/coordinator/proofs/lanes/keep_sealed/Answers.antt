@@ -1,4 +1,4 @@
-use Rattle.std.proofs.Common.{ℕ, Bool, false, List, Some, Result, Err, sym, ap, subst, ◌++◌, ◌∷◌, []}
+use Rattle.std.proofs.Common.{Bool, false, Result, Err, sym, ap, subst, ◌++◌, ◌∷◌, []}
 use Rattle.token_cut.specs.Shapes.{Starts, IsShape}
 use Rattle.grape_event.specs.declared.event.StopCause.{StopCause}
 use Rattle.noted_lock.specs.Sights.{seat_note}

@@ -1,4 +1,4 @@
-use Rattle.std.proofs.Common.{rules, ◌≡◌, ℕ, sym, subst, arith, Option, Some, length}
+use Rattle.std.proofs.Common.{rules, ◌≡◌, ℕ, subst, arith, Option, Some, length}
 use Rattle.noted_lock.specs.declared.seat.LockSeat.{LockSeat}
 use Rattle.noted_lock.specs.Sights.{lock_id}
 use Rattle.coordinator.specs.Seats.{IsSeatOfRun, HoldsSeat, IsSlotAt}

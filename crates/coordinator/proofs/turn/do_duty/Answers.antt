@@ -1,4 +1,4 @@
-use Rattle.std.proofs.Common.{◌≡◌, ℕ, ◌+◌, ◌%◌, Bool, Err, inl, inr, refl, sym, ◌∙◌, ap, subst, arith, length, reverse}
+use Rattle.std.proofs.Common.{◌≡◌, ℕ, ◌+◌, ◌%◌, Bool, Err, inl, inr, refl, sym, ◌∙◌, ap, subst, arith, length}
 use Rattle.grape_event.specs.declared.event.Event.TheVariants.{Seal, Kept, Stop}
 use Rattle.grape_event.specs.declared.event.StopCause.{StopCause}
 use Rattle.token_cut.specs.Parts.{SnapshotParts}
@@ -8,15 +8,15 @@ use Rattle.grape_hub.specs.declared.work.Duty.{Duty}
 use Rattle.grape_hub.specs.declared.work.Duty.TheVariants.{Sealed}
 use Rattle.grape_hub.specs.HubValues.{HubValues}
 use Rattle.grape_hub.specs.States.{machine, state_of}
-use Rattle.grape_hub.specs.Calls.{Appended, ChoosesDuty, WritesSealed}
+use Rattle.grape_hub.specs.Calls.{ChoosesDuty, WritesSealed}
 use Rattle.grape_hub.specs.Theorems.{IsCalm}
 use Rattle.coordinator.specs.Shapes.{shape_of}
-use Rattle.coordinator.specs.Turns.{GoesOn, HasNoDuty}
-use Rattle.coordinator.specs.Keeping.{cuts_in, last_in, IsSealedNext, SealsMayBeKept, IsGoing, KeepsOn, TurnLeaves, TurnKeeps}
+use Rattle.coordinator.specs.Turns.{HasNoDuty}
+use Rattle.coordinator.specs.Keeping.{cuts_in, IsSealedNext, SealsMayBeKept, IsGoing, KeepsOn, TurnLeaves, TurnKeeps}
 use Rattle.coordinator.specs.declared.keeper.Keeper.{Keeper}
 use Rattle.coordinator.proofs.Places.{in_limits}
 use Rattle.coordinator.proofs.Sizing.{slot_sizes}
-use Rattle.coordinator.proofs.Turns.{duty_done, stopped_unchanged, memory_stays, ended_stays}
+use Rattle.coordinator.proofs.Turns.{duty_done, stopped_unchanged, memory_stays}
 use Rattle.coordinator.proofs.Going.{keeper_same, going_stays, over_stays, keeps_stays, comes_stays, sealed_keeps, sealed_comes, asks, has_last, appended_after, going_sealed, over_sealed, only_so, cuts_after}
 use Rattle.lane_loop.proofs.Steps.{stops_after}
 use Rattle.coordinator.proofs.turn.do_duty.Goals as goal

@@ -1,8 +1,7 @@
-use Rattle.std.proofs.Common.{◌≡◌, inl, inr, not, refl, sym, ◌∙◌, ap, subst}
+use Rattle.std.proofs.Common.{◌≡◌, inl, inr, not, sym, ◌∙◌, ap, subst}
 use Rattle.graph_core.specs.declared.job.Job.{Job}
 use Rattle.graph_core.specs.Queries.{equations_of}
 use Rattle.graph_core.specs.Fragments.{fragments_of, fragment_of}
-use Rattle.grape_event.specs.declared.event.Event.TheVariants.{Give}
 use Rattle.grape_hub.specs.declared.work.Next.{Next}
 use Rattle.grape_hub.specs.HubValues.{HubValues}
 use Rattle.grape_hub.specs.States.{state_of}
