@@ -1,10 +1,12 @@
 //! Commands on a disk in memory, and what they leave.
+ghost use Rattle.std.specs.Prelude.{◌≡◌, IfOk, vec_len};
 
 use delay_stretch::{Calm, Pacer};
 use grape_disk::MemDisk;
 use grape_port::{MemSink, MemSource, NoMemory};
 use grape_run::{Finish, Status, Words, grape};
 use lane_loop::OpenGate;
+use std::alloc::Global;
 use std::process::Abort;
 use std::sync::Wait;
 use std::thread::Threads;
@@ -15,6 +17,17 @@ pub(crate) struct Left {
     pub(crate) finish: Finish,
     pub(crate) out: MemSink,
     pub(crate) note: MemSink,
+}
+
+/// A pacer for each of 64 workers. They add no turns.
+pub(crate) fn calm_pacers(alloc: Global) -> Result<Vec<Box<dyn Pacer + Send>>, NoMemory>
+    ensures { IfOk result (λ pacers. vec_len pacers ≡ 64) }
+{
+    let mut pacers: Vec<Box<dyn Pacer + Send>> = Vec::new(alloc);
+    'pacers: for _number in 0..64_u32 {
+        pacers.push(Box::new(alloc, Calm)?)?;
+    }
+    Ok(pacers)
 }
 
 /// A command of one word with this input, on this disk. Its pacers add no turns.
@@ -30,10 +43,7 @@ pub(crate) fn command<R: Threads + Wait + Sync + AllocGlobal>(
     let mut input = MemSource::new(Vec::from_slice(alloc, text)?, 4096, Vec::new(alloc));
     let mut out = MemSink::new(alloc, 4096, 4096, Vec::new(alloc))?;
     let mut note = MemSink::new(alloc, 4096, 4096, Vec::new(alloc))?;
-    let mut pacers: Vec<Box<dyn Pacer + Send>> = Vec::new(alloc);
-    'pacers: for _number in 0..64_u32 {
-        pacers.push(Box::new(alloc, Calm)?)?;
-    }
+    let pacers = calm_pacers(alloc)?;
     let finish = grape(
         rt, alloc, &words, &mut input, &mut out, &mut note, disk, pacers, &OpenGate,
     );

@@ -14,6 +14,8 @@ use std::thread::Threads;
 /// No run of these trials has as many calls of the disk.
 const MANY_CALLS: u64 = 1000;
 
+const FOUR_LANES: &str = "fragments 4\nlanes 4\npolicy bsp\n";
+
 /// Stops where a resume on these bytes isn't done with this answer, or begins neither at the snapshot of the last epoch
 /// that was kept nor at the next one. Says at which epoch it begins.
 pub(crate) fn resume_from<R: Abort + Threads + Wait + Sync + AllocGlobal>(
@@ -105,16 +107,17 @@ pub(crate) fn plain_answer<R: Abort + Threads + Wait + Sync + AllocGlobal>(
     Ok(answer)
 }
 
-/// Stops runs of each query on a graph that a number draws, under these settings, with snapshots after one Take, after
+/// Stops runs of these queries on a graph that a number draws, under these settings, with snapshots after one Take, after
 /// two and after five.
 fn check_drawn<R: Abort + Threads + Wait + Sync + AllocGlobal>(
     rt: &R,
     settings: &str,
     number: u64,
+    queries: &[&'static str],
 ) -> Result<(), NoMemory> {
     let alloc = rt.alloc();
     let lines = drawn(alloc, number, 5)?;
-    for query in query_table() {
+    for query in queries {
         let want = plain_answer(rt, query, lines.as_str())?;
         let mut resumed = 0_u64;
         for snapshot in [1, 2, 5] {
@@ -129,18 +132,26 @@ fn check_drawn<R: Abort + Threads + Wait + Sync + AllocGlobal>(
 
 #[test]
 fn one_lane_goes_on_from_each_stop(rt: HostRuntime) -> Result<(), Fail> {
-    check_drawn(&rt, "fragments 3\nlanes 1\npolicy ap\n", 3)?;
+    check_drawn(&rt, "fragments 3\nlanes 1\npolicy ap\n", 3, &query_table())?;
     Ok(())
 }
 
 #[test]
 fn two_lanes_go_on_from_each_stop(rt: HostRuntime) -> Result<(), Fail> {
-    check_drawn(&rt, "fragments 3\nlanes 2\ncut range\n", 5)?;
+    check_drawn(&rt, "fragments 3\nlanes 2\ncut range\n", 5, &query_table())?;
     Ok(())
 }
 
 #[test]
-fn four_lanes_go_on_from_each_stop(rt: HostRuntime) -> Result<(), Fail> {
-    check_drawn(&rt, "fragments 4\nlanes 4\npolicy bsp\n", 7)?;
+fn four_lanes_go_on_with_distances_and_labels(rt: HostRuntime) -> Result<(), Fail> {
+    let [distances, labels, ..] = query_table();
+    check_drawn(&rt, FOUR_LANES, 7, &[distances, labels])?;
+    Ok(())
+}
+
+#[test]
+fn four_lanes_go_on_with_reachability_and_simulation(rt: HostRuntime) -> Result<(), Fail> {
+    let [.., reached, simulated] = query_table();
+    check_drawn(&rt, FOUR_LANES, 7, &[reached, simulated])?;
     Ok(())
 }

@@ -1,5 +1,5 @@
 use Rattle.std.proofs.Common.{◌≡◌, vec_len}
-use Rattle.resume_trials.proofs.commands.command.Given as goal
+use Rattle.resume_trials.proofs.commands.calm_pacers.Given as goal
 
 abbrev pub invariant-pacers : goal.invariant-pacers
 invariant-pacers g l = vec_len l.pacers ≡ l._number
