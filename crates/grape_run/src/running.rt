@@ -46,10 +46,12 @@ pub(crate) fn run_from<R: Threads + Wait + Sync, D: Disk, G: Gate + Sync>(
     ensures honest { D.honest disk.new ≡ D.honest disk.old }
 {
     claims_add_up(disk);
-    match enter(alloc, mode, job, shape, bytes, disk) {
-        Ok(entry) => { Ok(ran_by(rt, alloc, job, fragments, shape, entry, disk, pacers, gate)) }
-        Err(status) => Err(status),
-    }
+    let entry = match enter(alloc, mode, job, shape, bytes, disk) {
+        Ok(entry) => entry,
+        Err(status) => return Err(status),
+    };
+    let ran = ran_by(rt, alloc, job, fragments, shape, entry, disk, pacers, gate);
+    Ok(ran)
 }
 
 /// The run by as many lanes as the job says. On one lane it runs on the caller's thread, and the gate isn't asked.
