@@ -47,9 +47,7 @@ pub(crate) fn answer_of<Q: Pacer>(
     let fragments = fragment(alloc, job)?;
     let shape = shape_of(alloc, job, &fragments)?;
     let (entry, mut disk) = entered(alloc, job, &shape)?;
-    let ran = run_alone(
-        alloc, job, &fragments, &shape, entry, &mut disk, pacers,
-    );
+    let ran = run_alone(alloc, job, &fragments, &shape, entry, &mut disk, pacers);
     answer_in(alloc, job, &fragments, ran)
 }
 
