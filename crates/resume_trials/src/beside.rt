@@ -1,6 +1,6 @@
 //! A snapshot is put while the lanes go on: the disk of this trial waits, in the midst of a put, until a lane goes on.
-ghost use Rattle.std.specs.Prelude.{◌≡◌, ◌^◌, ◌-◌, ◌<◌, false, None, ⊤, is_ok, if◌then◌else◌};
-ghost use Rattle.grape_port.specs.Ports.{one_more};
+ghost use Rattle.std.specs.Prelude.{◌≡◌, ◌^◌, ◌-◌, ◌≤◌, false, None, ⊤, IsErr, OnOk, OnErr};
+ghost use Rattle.grape_port.specs.Ports.{Rose, one_more};
 
 use crate::commands::calm_pacers;
 use grape_disk::Disk;
@@ -39,6 +39,17 @@ struct Patient<'a> {
     met: bool,
 }
 
+/// Whether another Work passes the gate behind so many, within the turns.
+fn another_passes(gate: &Counting, before: u64) -> bool {
+    for _ in 0..TURNS {
+        if gate.passes.load(Ordering::SeqCst) > before {
+            return true;
+        }
+        yield_now();
+    }
+    false
+}
+
 impl Patient<'_> {
     /// Waits once, while a run is going on.
     fn wait_for_a_pass(&mut self)
@@ -46,24 +57,20 @@ impl Patient<'_> {
         ensures faults { self.new.faults ≡ self.old.faults }
     {
         let before = self.gate.passes.load(Ordering::SeqCst);
-        if self.waited || before == 0 {
-            return;
-        }
-        self.waited = true;
-        for _ in 0..TURNS {
-            if self.gate.passes.load(Ordering::SeqCst) > before {
-                self.met = true;
-                return;
-            }
-            yield_now();
+        if !self.waited && before > 0 {
+            self.waited = true;
+            self.met = another_passes(self.gate, before);
         }
     }
 
     /// Counts a call, which fails where it isn't well or has no number.
     fn count(&mut self, well: bool) -> Result<(), Failed>
-        ensures calls { self.new.calls ≡ one_more self.old.calls }
-        ensures faults { self.new.faults ≡ (if is_ok result then self.old.faults else one_more self.old.faults) }
-        ensures full { self.old.calls ≡ 2 ^ 64 - 1 → is_ok result ≡ false }
+        ensures next { self.new.calls ≡ one_more self.old.calls }
+        ensures later { self.old.calls ≤ self.new.calls }
+        ensures ok { OnOk result (self.new.faults ≡ self.old.faults) }
+        ensures err { OnErr result (Rose self.old.faults self.new.faults) }
+        ensures faults_stay { self.old.faults ≤ self.new.faults }
+        ensures full { self.old.calls ≡ 2 ^ 64 - 1 → IsErr result }
     {
         let numbered = self.calls < u64::MAX;
         self.calls = self.calls.saturating_add(1);
@@ -92,8 +99,10 @@ impl Disk for Patient<'_> {
 
     fn len(&mut self) -> Result<u64, Failed> {
         let length = self.bytes.len() as u64;
-        self.count(true)?;
-        Ok(length)
+        match self.count(true) {
+            Ok(()) => Ok(length),
+            Err(failed) => Err(failed),
+        }
     }
 
     fn read_at(&mut self, at: u64, to: &mut [u8]) -> Result<(), Failed> {
