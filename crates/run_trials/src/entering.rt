@@ -4,6 +4,7 @@ ghost use Rattle.std.specs.Prelude.{◌≡◌, ◌≤◌, IfOk};
 ghost use Rattle.graph_core.specs.Graphs.{IsJob};
 ghost use Rattle.base_machine.specs.Machine.{system_of};
 ghost use Rattle.base_machine.specs.Fitness.{IsInForm};
+ghost use Rattle.token_cut.specs.Shapes.{IsShape};
 ghost use Rattle.coordinator.specs.Runs.{HasLast};
 ghost use Rattle.coordinator.specs.Shapes.{shape_of};
 
@@ -21,6 +22,7 @@ const DIGEST: [u8; 32] = [0xA5; 32];
 pub(crate) fn entered(alloc: Global, job: &Job, shape: &Shape) -> Result<(Entry, MemDisk), NoMemory>
     requires job { IsJob job.now }
     requires shape { shape.now ≡ shape_of job.now }
+    requires limits { IsShape shape.now }
     ensures start { IfOk result (λ r. IsInForm (system_of job.now) r.0.start) }
     ensures store { IfOk result (λ r. 1 ≤ job.now.settings.snapshot → HasLast r.0.start.epoch r.0.store) }
 {
