@@ -13,13 +13,13 @@ use Rattle.legal_journal.specs.Choices.{is_of_lane, is_duty}
 use Rattle.legal_journal.specs.Legal.{start_state}
 use Rattle.legal_journal.specs.Cuts.{sealed_snapshots}
 use Rattle.legal_journal.proofs.Choosing.{lane_choices_are_exact}
-use Rattle.grape_hub.specs.HubValues.{HubValues}
-use Rattle.grape_hub.specs.States.{machine, state_of, sealed_epoch}
-use Rattle.grape_hub.specs.declared.work.Next.TheVariants.{Did}
-use Rattle.grape_hub.specs.Calls.{Appended, Unchanged, Chooses, is_seal}
+use Rattle.hub_engine.specs.HubValues.{HubValues}
+use Rattle.hub_engine.specs.States.{machine, state_of, sealed_epoch}
+use Rattle.hub_engine.specs.declared.work.Next.TheVariants.{Did}
+use Rattle.hub_engine.specs.Calls.{Appended, Unchanged, Chooses, is_seal}
+use Rattle.hub_engine.proofs.Hubs.{past_of}
 use Rattle.grape_hub.specs.LanedHub.{LanedHub}
 use Rattle.grape_hub.specs.Notes.{is_stopped_by_disk, numbers_of_cuts, lane_part, coordinator_part, own_in, note_of}
-use Rattle.grape_hub.proofs.Hubs.{past_of}
 use Rattle.grape_hub.proofs.NoteLaws.{own_is}
 use Rattle.grape_hub.proofs.NotesStay.{sealed_more}
 use Rattle.grape_hub.proofs.CutNotes.{not_below, coordinator_own}

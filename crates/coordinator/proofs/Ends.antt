@@ -6,9 +6,9 @@ use Rattle.grape_event.specs.declared.event.Event.TheVariants.{End}
 use Rattle.legal_journal.specs.Past.{has_ended, all_have_answered, all_begun_are_kept}
 use Rattle.legal_journal.specs.Legal.{State, start_state, state_at_end, worker_count, row_admits, IsLegal}
 use Rattle.legal_journal.proofs.Walks.{kept_along, journals_grow}
-use Rattle.grape_hub.specs.HubValues.{HubValues}
-use Rattle.grape_hub.specs.States.{machine, state_of, sealed_epoch, IsHub}
-use Rattle.grape_hub.proofs.Snapshots.{SnapshotsAreInTurn, turn_kept, begins_in_turn, none_where_kept}
+use Rattle.hub_engine.specs.HubValues.{HubValues}
+use Rattle.hub_engine.specs.States.{machine, state_of, sealed_epoch, IsHub}
+use Rattle.hub_engine.proofs.Snapshots.{SnapshotsAreInTurn, turn_kept, begins_in_turn, none_where_kept}
 use Rattle.coordinator.specs.Runs.{EndsBy}
 
 -- an End is admitted only where all that was begun is kept

@@ -12,12 +12,12 @@ use Rattle.legal_journal.specs.Legal.{State, start_state, state_after, worker_co
 use Rattle.legal_journal.specs.Cuts.{snapshots_from}
 use Rattle.recovery.specs.Crashes.{kept_epochs, epochs_of, Survives, MayKeep}
 use Rattle.recovery.specs.declared.kept_at.KeptAt.{KeptAt}
-use Rattle.grape_hub.specs.HubValues.{HubValues}
-use Rattle.grape_hub.specs.States.{machine, state_of, sealed_epoch, IsHub}
-use Rattle.grape_hub.specs.Calls.{Appended}
+use Rattle.hub_engine.specs.HubValues.{HubValues}
+use Rattle.hub_engine.specs.States.{machine, state_of, sealed_epoch, IsHub}
+use Rattle.hub_engine.specs.Calls.{Appended}
+use Rattle.hub_engine.proofs.Snapshots.{SnapshotsAreInTurn, turn_kept, begins_in_turn}
 use Rattle.grape_hub.specs.Notes.{is_stopped_by_disk}
 use Rattle.grape_hub.specs.Theorems.{KeptsFollowSeals, NothingIsSealed}
-use Rattle.grape_hub.proofs.Snapshots.{SnapshotsAreInTurn, turn_kept, begins_in_turn}
 use Rattle.coordinator.specs.Shapes.{shape_of}
 use Rattle.coordinator.specs.Runs.{EndsBy}
 use Rattle.coordinator.specs.Keeping.{cuts_in, last_in, IsOver, ComesTo}

@@ -18,12 +18,12 @@ use Rattle.legal_journal.specs.Cuts.{sealed_snapshots, epochs_kept}
 use Rattle.recovery.specs.Crashes.{epochs_of, kept_epochs, Survives, MayKeep, KeepsOne, MayHaveKept}
 use Rattle.snapshot_store.specs.Stores.{StoreValue}
 use Rattle.recovery.specs.declared.kept_at.KeptAt.{KeptAt}
-use Rattle.grape_hub.specs.HubValues.{HubValues}
-use Rattle.grape_hub.specs.States.{machine, state_of, sealed_epoch, IsHub}
-use Rattle.grape_hub.specs.Calls.{Appended, AppendedUnlessEnded, Unchanged, is_seal}
+use Rattle.hub_engine.specs.HubValues.{HubValues}
+use Rattle.hub_engine.specs.States.{machine, state_of, sealed_epoch, IsHub}
+use Rattle.hub_engine.specs.Calls.{Appended, AppendedUnlessEnded, Unchanged, is_seal}
+use Rattle.hub_engine.proofs.Hubs.{state_grown, ends_with}
 use Rattle.grape_hub.specs.Notes.{is_stopped_by_disk}
 use Rattle.grape_hub.specs.Theorems.{waiting_in, KeptsFollowSeals, NothingIsSealed}
-use Rattle.grape_hub.proofs.Hubs.{state_grown, ends_with}
 use Rattle.grape_hub.proofs.NotesStay.{sealed_more}
 use Rattle.coordinator.specs.Shapes.{shape_of}
 use Rattle.coordinator.specs.Runs.{EndsBy, HasLast, HasUsed}

@@ -12,9 +12,9 @@ use Rattle.base_machine.specs.Machine.{System, system_of}
 use Rattle.legal_journal.specs.Legal.{State, start_state, state_after, IsLegal}
 use Rattle.legal_journal.specs.Cuts.{sealed_from, sealed_snapshot, sealed_snapshots, FollowOn}
 use Rattle.legal_journal.specs.Theorems.{EpochsFollow, SealsAdd}
-use Rattle.grape_hub.specs.States.{machine, sealed_epoch}
+use Rattle.hub_engine.specs.States.{machine, sealed_epoch}
+use Rattle.hub_engine.proofs.Hubs.{state_grown}
 use Rattle.grape_hub.specs.Theorems.{SealedMayBeResumed}
-use Rattle.grape_hub.proofs.Hubs.{state_grown}
 use Rattle.coordinator.specs.Shapes.{shape_of, FormsAgree}
 use Rattle.coordinator.specs.Keeping.{cuts_in, last_sealed, SealsMayBeKept}
 

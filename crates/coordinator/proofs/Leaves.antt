@@ -11,8 +11,8 @@ use Rattle.token_cut.specs.Parts.{SnapshotParts}
 use Rattle.token_cut.specs.Shapes.{Starts}
 use Rattle.recovery.specs.Crashes.{kept_epochs, epochs_of, Survives, MayKeep, KeepsOne, MayHaveKept}
 use Rattle.recovery.specs.declared.kept_at.KeptAt.{KeptAt}
-use Rattle.grape_hub.specs.declared.work.Duty.{Duty}
-use Rattle.grape_hub.specs.declared.work.Duty.TheVariants as duty
+use Rattle.hub_engine.specs.declared.work.Duty.{Duty}
+use Rattle.hub_engine.specs.declared.work.Duty.TheVariants as duty
 use Rattle.grape_hub.specs.LanedHub.{LanedHub, IsLanedHub}
 use Rattle.grape_hub.specs.Notes.{ground_of, ground_in, note_of}
 use Rattle.grape_hub.specs.Theorems.{GroundsTell, NotesBegin, CutsTell}

@@ -25,16 +25,16 @@ use Rattle.legal_journal.specs.Cuts.{sealed_snapshots, epochs_kept}
 use Rattle.recovery.specs.Crashes.{kept_epochs}
 use Rattle.recovery.specs.declared.kept_at.KeptAt.{KeptAt}
 use Rattle.answer_text.specs.Assembled.{FitParts, values_at}
-use Rattle.grape_hub.specs.HubValues.{HubValues}
-use Rattle.grape_hub.specs.States.{machine, workers_of, IsHub}
-use Rattle.grape_hub.specs.Calls.{HaveValues, HaveSizes}
+use Rattle.hub_engine.specs.HubValues.{HubValues}
+use Rattle.hub_engine.specs.States.{machine, workers_of, IsHub}
+use Rattle.hub_engine.specs.Calls.{HaveValues, HaveSizes}
 use Rattle.grape_hub.specs.Theorems.{IsCalm}
 use Rattle.grape_hub.proofs.Idling.{end_is_quiet}
 use Rattle.pie_core.specs.Solutions.{starts_of}
 use Rattle.base_machine.proofs.Giving.{below-length}
-use Rattle.grape_hub.proofs.Formed.{formed}
-use Rattle.grape_hub.proofs.Hubs.{workers_are}
-use Rattle.grape_hub.proofs.Ready.{piece_is}
+use Rattle.hub_engine.proofs.Formed.{formed}
+use Rattle.hub_engine.proofs.Hubs.{workers_are}
+use Rattle.hub_engine.proofs.Ready.{piece_is}
 use Rattle.coordinator.specs.declared.story.Story.{Story}
 use Rattle.coordinator.specs.Runs.{IsStoryOf, AreLocalsOf, LastEvent, EndsBy}
 use Rattle.coordinator.specs.Endings.{IsStoryAt}

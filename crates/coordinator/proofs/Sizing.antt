@@ -10,7 +10,7 @@ use Rattle.graph_core.specs.Fragments.{places, numbers_below, owned_of, mirrors_
 use Rattle.token_cut.specs.Parts.{PartValues, SnapshotParts}
 use Rattle.token_cut.specs.Shapes.{PartStarts, Starts, sizes_of, sizes_in, fresh_part, fresh_snapshot}
 use Rattle.token_cut.specs.Form.{IsPartInSlotForm, IsInSlotForm}
-use Rattle.grape_hub.proofs.Hubs.{zipped_length}
+use Rattle.hub_engine.proofs.Hubs.{zipped_length}
 use Rattle.coordinator.specs.Shapes.{starts_in, shape_of}
 use Rattle.coordinator.specs.Keeping.{HasSizesFor}
 

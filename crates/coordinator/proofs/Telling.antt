@@ -10,7 +10,7 @@ use Rattle.token_cut.specs.Parts.{SnapshotParts}
 use Rattle.snapshot_store.specs.Stores.{StoreValue}
 use Rattle.recovery.specs.Crashes.{Survives, MayKeep, ClaimBegins, ClaimOpened}
 use Rattle.recovery.specs.declared.kept_at.KeptAt.{KeptAt}
-use Rattle.grape_hub.specs.HubValues.{HubValues}
+use Rattle.hub_engine.specs.HubValues.{HubValues}
 use Rattle.grape_hub.specs.Notes.{is_stopped_by_disk}
 use Rattle.coordinator.specs.Shapes.{shape_of}
 use Rattle.coordinator.specs.Runs.{EndsBy, IsStoppedByDisk, IsNotStopped, KeepsNothing, KeepsBy, RunSurvives}

@@ -11,19 +11,19 @@ use Rattle.token_cut.specs.Parts.{SnapshotParts}
 use Rattle.legal_journal.specs.Past.{has_ended}
 use Rattle.legal_journal.specs.Choices.{is_duty}
 use Rattle.legal_journal.specs.Theorems.{DutiesAreExact}
-use Rattle.grape_hub.specs.declared.work.Work.{Work}
-use Rattle.grape_hub.specs.declared.work.Duty.TheVariants.{Did}
-use Rattle.grape_hub.specs.HubValues.{HubValues}
-use Rattle.grape_hub.specs.States.{machine, state_of, IsHub}
-use Rattle.grape_hub.specs.Calls.{Appended, AppendedUnlessEnded, Unchanged, ChoosesDuty}
+use Rattle.hub_engine.specs.declared.work.Work.{Work}
+use Rattle.hub_engine.specs.declared.work.Duty.TheVariants.{Did}
+use Rattle.hub_engine.specs.HubValues.{HubValues}
+use Rattle.hub_engine.specs.States.{machine, state_of, IsHub}
+use Rattle.hub_engine.specs.Calls.{Appended, AppendedUnlessEnded, Unchanged, ChoosesDuty}
+use Rattle.hub_engine.specs.declared.work.Next.TheVariants.{Took}
 use Rattle.grape_hub.specs.Notes.{is_stopped_by_disk}
 use Rattle.grape_hub.specs.Theorems.{IsCalm, CalmAfterOther, KeptsFollowSeals}
 use Rattle.grape_hub.specs.declared.lane_record.LaneRecord.{LaneRecord}
-use Rattle.grape_hub.specs.declared.work.Next.TheVariants.{Took}
 use Rattle.grape_hub.specs.LanedHub.{LanedHub, IsLanedHub, no_record, lane_at, is_out_at, after_answer, lanes_after_answer}
 use Rattle.lane_loop.specs.Turns.{StopsForMemory}
 use Rattle.legal_journal.proofs.Choosing.{lane_choices_are_exact}
-use Rattle.grape_hub.proofs.Hubs.{ends_with}
+use Rattle.hub_engine.proofs.Hubs.{ends_with}
 use Rattle.coordinator.specs.Turns.{HasNoDiskStop, HasNoDuty, ServesLane, ServesOrStops, GoesOn}
 use Rattle.coordinator.specs.Keeping.{cuts_in, IsGoing, TurnLeaves, TurnKeeps}
 use Rattle.coordinator.specs.declared.keeper.Keeper.{Keeper}

@@ -12,15 +12,15 @@ use Rattle.legal_journal.specs.Past.{has_ended}
 use Rattle.legal_journal.specs.Choices.{is_duty}
 use Rattle.legal_journal.specs.Legal.{State}
 use Rattle.legal_journal.proofs.Choosing.{duties_are_exact}
-use Rattle.grape_hub.specs.HubValues.{HubValues}
-use Rattle.grape_hub.specs.States.{machine, state_of, sealed_epoch}
-use Rattle.grape_hub.specs.declared.work.Duty.{Duty}
-use Rattle.grape_hub.specs.declared.work.Duty.TheVariants as duty
-use Rattle.grape_hub.specs.Calls.{Appended, Unchanged, ChoosesDuty, WritesSealed, is_seal}
+use Rattle.hub_engine.specs.HubValues.{HubValues}
+use Rattle.hub_engine.specs.States.{machine, state_of, sealed_epoch}
+use Rattle.hub_engine.specs.declared.work.Duty.{Duty}
+use Rattle.hub_engine.specs.declared.work.Duty.TheVariants as duty
+use Rattle.hub_engine.specs.Calls.{Appended, Unchanged, ChoosesDuty, WritesSealed, is_seal}
+use Rattle.hub_engine.proofs.Hubs.{past_of, state_grown}
 use Rattle.grape_hub.specs.LanedHub.{LanedHub, IsLanedHub}
 use Rattle.grape_hub.specs.Notes.{is_stopped_by_disk, numbers_of_cuts, ground_of, ground_in, own_in, note_of}
 use Rattle.grape_hub.specs.Theorems.{GroundsTell, NotesBegin, CutsTell, WaitsAmong, NothingIsSealed}
-use Rattle.grape_hub.proofs.Hubs.{past_of, state_grown}
 use Rattle.coordinator.specs.Shapes.{shape_of}
 use Rattle.coordinator.specs.Keeping.{cuts_in, SealsMayBeKept}
 use Rattle.coordinator.specs.Leaving.{IsNoteOf}

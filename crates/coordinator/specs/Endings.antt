@@ -3,7 +3,7 @@ use Rattle.std.specs.Prelude.{◌≡◌, List}
 use Rattle.graph_core.specs.declared.job.Job.{Job}
 use Rattle.grape_event.specs.declared.event.Event.TheVariants.{End, Stop}
 use Rattle.recovery.specs.declared.kept_at.KeptAt.{KeptAt}
-use Rattle.grape_hub.specs.HubValues.{HubValues}
+use Rattle.hub_engine.specs.HubValues.{HubValues}
 use Rattle.coordinator.specs.Runs.{EndsBy, cuts_of}
 use Rattle.coordinator.specs.Keeping.{cuts_in}
 use Rattle.coordinator.specs.declared.ran.Ran.{Ran}

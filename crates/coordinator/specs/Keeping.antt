@@ -12,9 +12,9 @@ use Rattle.legal_journal.specs.Cuts.{sealed_snapshot, sealed_snapshots, epochs_k
 use Rattle.snapshot_store.specs.Stores.{StoreValue}
 use Rattle.recovery.specs.Crashes.{epochs_of, kept_epochs, Survives, MayKeep}
 use Rattle.recovery.specs.declared.kept_at.KeptAt.{KeptAt}
-use Rattle.grape_hub.specs.HubValues.{HubValues}
-use Rattle.grape_hub.specs.States.{machine, state_of, sealed_epoch, IsHub}
-use Rattle.grape_hub.specs.Calls.{Appended}
+use Rattle.hub_engine.specs.HubValues.{HubValues}
+use Rattle.hub_engine.specs.States.{machine, state_of, sealed_epoch, IsHub}
+use Rattle.hub_engine.specs.Calls.{Appended}
 use Rattle.grape_hub.specs.Notes.{is_stopped_by_disk}
 use Rattle.coordinator.specs.Shapes.{shape_of}
 use Rattle.coordinator.specs.Runs.{EndsBy, HasLast}

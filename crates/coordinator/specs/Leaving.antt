@@ -6,8 +6,8 @@ use Rattle.grape_event.specs.declared.event.StopCause.{StopCause}
 use Rattle.grape_event.specs.declared.event.StopCause.TheVariants.{Disk}
 use Rattle.token_cut.specs.Parts.{SnapshotParts}
 use Rattle.recovery.specs.declared.kept_at.KeptAt.{KeptAt}
-use Rattle.grape_hub.specs.HubValues.{HubValues}
-use Rattle.grape_hub.specs.States.{state_of, sealed_epoch}
+use Rattle.hub_engine.specs.HubValues.{HubValues}
+use Rattle.hub_engine.specs.States.{state_of, sealed_epoch}
 use Rattle.grape_hub.specs.Notes.{ground_of, ground_in, own_in, numbers_of_cuts, is_stopped_by_disk}
 use Rattle.grape_hub.specs.Theorems.{WaitsAmong}
 use Rattle.coordinator.specs.Keeping.{cuts_in, HasKept, HasNoted, IsGoing, KeepsOn, ComesTo}

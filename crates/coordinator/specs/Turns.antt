@@ -8,13 +8,13 @@ use Rattle.legal_journal.specs.Choices.{duty_choice}
 use Rattle.lane_loop.specs.declared.served.Served.{Served}
 use Rattle.lane_loop.specs.declared.served.Served.TheVariants.{Did, Idle, Ended, NoMemory}
 use Rattle.lane_loop.specs.Turns.{Answers, StopsForMemory}
-use Rattle.grape_hub.specs.HubValues.{HubValues}
-use Rattle.grape_hub.specs.States.{machine, state_of, sealed_epoch}
-use Rattle.grape_hub.specs.Calls.{Appended, Chooses, ChoosesDuty}
+use Rattle.hub_engine.specs.HubValues.{HubValues}
+use Rattle.hub_engine.specs.States.{machine, state_of, sealed_epoch}
+use Rattle.hub_engine.specs.Calls.{Appended, Chooses, ChoosesDuty}
+use Rattle.hub_engine.specs.declared.work.Work.{Work}
+use Rattle.hub_engine.specs.declared.work.Next.TheVariants as next
+use Rattle.hub_engine.specs.declared.work.Duty.TheVariants as duty
 use Rattle.grape_hub.specs.Notes.{is_stopped_by_disk}
-use Rattle.grape_hub.specs.declared.work.Work.{Work}
-use Rattle.grape_hub.specs.declared.work.Next.TheVariants as next
-use Rattle.grape_hub.specs.declared.work.Duty.TheVariants as duty
 
 -- The disk didn't stop the run.
 abbrev pub HasNoDiskStop : HubValues → Type 0

@@ -9,10 +9,10 @@ use Rattle.recovery.specs.declared.kept_at.KeptAt.{KeptAt}
 use Rattle.lane_loop.specs.declared.served.Served.{Served}
 use Rattle.lane_loop.specs.declared.served.Served.TheVariants.{Ended}
 use Rattle.lane_loop.specs.Turns.{StopsForMemory}
-use Rattle.grape_hub.specs.HubValues.{HubValues}
-use Rattle.grape_hub.specs.Calls.{ChoosesDuty}
-use Rattle.grape_hub.specs.declared.work.Duty.{Duty}
-use Rattle.grape_hub.specs.declared.work.Duty.TheVariants as duty
+use Rattle.hub_engine.specs.HubValues.{HubValues}
+use Rattle.hub_engine.specs.Calls.{ChoosesDuty}
+use Rattle.hub_engine.specs.declared.work.Duty.{Duty}
+use Rattle.hub_engine.specs.declared.work.Duty.TheVariants as duty
 use Rattle.coordinator.specs.Shapes.{shape_of}
 use Rattle.coordinator.specs.Runs.{HasUsed}
 use Rattle.coordinator.specs.Keeping.{cuts_in, digest_in, HasKept, IsOver, KeepsOn, ComesTo}

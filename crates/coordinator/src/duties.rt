@@ -1,7 +1,7 @@
 ghost use Rattle.std.specs.Prelude.{◌≡◌};
 ghost use Rattle.grape_event.specs.declared.event.Event.TheVariants.{Kept, Stop};
 ghost use Rattle.noted_lock.specs.Sights.{lock_id, seat_note};
-ghost use Rattle.grape_hub.specs.Calls.{AppendedUnlessEnded};
+ghost use Rattle.hub_engine.specs.Calls.{AppendedUnlessEnded};
 ghost use Rattle.grape_hub.specs.Notes.{note_of, ground_in, OthersStay};
 ghost use Rattle.coordinator.specs.Keeping.{HasSizesFor};
 ghost use Rattle.coordinator.specs.Seats.{IsSeatOfRun};

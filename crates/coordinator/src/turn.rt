@@ -2,8 +2,8 @@ ghost use Rattle.std.specs.Prelude.{◌≡◌, false, IsTrue, IfSome, MatchOptio
 ghost use Rattle.graph_core.specs.Fragments.{fragments_of};
 ghost use Rattle.grape_event.specs.declared.event.Event.TheVariants.{Stop};
 ghost use Rattle.grape_event.specs.declared.event.StopCause.TheVariants.{Memory};
+ghost use Rattle.hub_engine.specs.Calls.{AppendedUnlessEnded};
 ghost use Rattle.grape_hub.specs.LanedHub.{IsLanedHub};
-ghost use Rattle.grape_hub.specs.Calls.{AppendedUnlessEnded};
 ghost use Rattle.grape_hub.specs.Theorems.{IsCalm};
 ghost use Rattle.coordinator.specs.Shapes.{shape_of};
 ghost use Rattle.coordinator.specs.Runs.{HasUsed};

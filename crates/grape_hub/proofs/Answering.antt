@@ -16,11 +16,11 @@ use Rattle.base_machine.proofs.Kept.{fit_is_kept}
 use Rattle.base_machine.proofs.Quiet.{fit_after, confluence_from}
 use Rattle.legal_journal.specs.BaseEvents.{base_of}
 use Rattle.legal_journal.proofs.Ledger.{events_are_bounded}
-use Rattle.grape_hub.specs.HubValues.{HubValues}
-use Rattle.grape_hub.specs.States.{machine, workers_of, IsHub}
+use Rattle.hub_engine.specs.HubValues.{HubValues}
+use Rattle.hub_engine.specs.States.{machine, workers_of, IsHub}
+use Rattle.hub_engine.proofs.Hubs.{piece_count}
+use Rattle.hub_engine.proofs.Formed.{sound_of, sound, hub_runs}
 use Rattle.grape_hub.specs.Theorems.{QuietIsTheAnswer, JournalIsBounded, FreshIsAStart}
-use Rattle.grape_hub.proofs.Hubs.{piece_count}
-use Rattle.grape_hub.proofs.Formed.{sound_of, sound, hub_runs}
 
 -- ---- the beginning
 

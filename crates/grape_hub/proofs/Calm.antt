@@ -13,9 +13,9 @@ use Rattle.base_machine.proofs.Swapping.{after-length, after-at}
 use Rattle.legal_journal.specs.Past.{gives_of_each}
 use Rattle.legal_journal.specs.Legal.{State, worker_count, state_after, state_at_end}
 use Rattle.legal_journal.proofs.Choosing.{any_none}
-use Rattle.grape_hub.specs.States.{machine, state_of}
+use Rattle.hub_engine.specs.States.{machine, state_of}
+use Rattle.hub_engine.proofs.Hubs.{state_grown}
 use Rattle.grape_hub.specs.Theorems.{CalmIsFree, CalmAtBeginning, CalmAfterTurn, CalmAfterOther}
-use Rattle.grape_hub.proofs.Hubs.{state_grown}
 
 -- ---- nobody is out
 

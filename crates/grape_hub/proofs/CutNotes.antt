@@ -1,12 +1,12 @@
 -- The coordinator's note tells what was sealed.
-use Rattle.std.proofs.Common.{◌≡◌, ℕ, ◌+◌, ◌<◌, ◌≤◌, Bool, true, false, ◌==◌, nat_lt, if◌then◌else◌, refl, sym, ◌∙◌, ap, subst, arith, List, [], ◌∷◌, ◌++◌, map, length, flat_map, Option, Some, None}
+use Rattle.std.proofs.Common.{◌≡◌, ℕ, ◌<◌, ◌≤◌, Bool, true, false, ◌==◌, nat_lt, if◌then◌else◌, refl, sym, ◌∙◌, ap, arith, List, [], ◌∷◌, ◌++◌, map, length, flat_map, Option, Some, None}
 use Rattle.std.proofs.lemmas.Bool.{eq-eqb, ltb-true, false_from_ne_true, false≢true}
 use Rattle.token_cut.specs.Parts.{SnapshotParts}
 use Rattle.legal_journal.specs.Cuts.{sealed_snapshots, epochs_kept, FollowOn}
 use Rattle.legal_journal.proofs.Listed.{epochs_follow}
-use Rattle.grape_hub.specs.HubValues.{HubValues}
-use Rattle.grape_hub.specs.States.{machine, state_of, sealed_epoch, IsHub}
-use Rattle.grape_hub.specs.LanedHub.{LanedHub, IsLanedHub}
+use Rattle.hub_engine.specs.HubValues.{HubValues}
+use Rattle.hub_engine.specs.States.{machine, state_of, sealed_epoch, IsHub}
+use Rattle.grape_hub.specs.LanedHub.{LanedHub}
 use Rattle.grape_hub.specs.Notes.{or_zero, zero_or_one, numbers_of_snapshot, numbers_of_cuts, is_stopped_by_disk, lane_part, coordinator_part, own_in, note_of}
 use Rattle.grape_hub.specs.Theorems.{waiting_in, WaitsAmong, CutsTell}
 use Rattle.grape_hub.proofs.Grounds.{head_same, tail_same, snapshot_told}

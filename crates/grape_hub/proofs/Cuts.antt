@@ -1,9 +1,9 @@
 -- A sealed snapshot is of a cut of the hub's run, and may be resumed.
-use Rattle.grape_hub.specs.States.{machine}
+use Rattle.hub_engine.specs.States.{machine}
 use Rattle.grape_hub.specs.Theorems.{CutsAreConsistent, SealedMayBeResumed}
 use Rattle.legal_journal.proofs.Sealing.{sealed_are_in_form, sealed_are_fit}
 use Rattle.legal_journal.proofs.Sealing as sealing
-use Rattle.grape_hub.proofs.Formed.{sound}
+use Rattle.hub_engine.proofs.Formed.{sound}
 
 pub cuts_are_consistent : CutsAreConsistent
 cuts_are_consistent h epoch hub sealed = sealing.cuts_are_consistent (machine h) h.start h.journal.events epoch hub.legal sealed

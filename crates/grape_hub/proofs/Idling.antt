@@ -12,12 +12,12 @@ use Rattle.legal_journal.proofs.Probes.{both, count_after, quiet_from}
 use Rattle.legal_journal.proofs.Probes as probes
 use Rattle.legal_journal.proofs.Choosing.{some-none, all_rest, lane_choices_are_exact}
 use Rattle.legal_journal.proofs.Choosing as choosing
-use Rattle.grape_hub.specs.HubValues.{HubValues}
-use Rattle.grape_hub.specs.States.{machine, state_of, workers_of, IsHub}
-use Rattle.grape_hub.specs.Choices.{MayChoose}
+use Rattle.hub_engine.specs.HubValues.{HubValues}
+use Rattle.hub_engine.specs.States.{machine, state_of, workers_of, IsHub}
+use Rattle.hub_engine.specs.Choices.{MayChoose}
+use Rattle.hub_engine.proofs.Hubs.{ended_is}
+use Rattle.hub_engine.proofs.Snapshots.{snapshots_of, all_sealed_are_kept}
 use Rattle.grape_hub.specs.Theorems.{IdleIsQuiet, OneLaneGoesOn, EndIsQuiet}
-use Rattle.grape_hub.proofs.Hubs.{ended_is}
-use Rattle.grape_hub.proofs.Snapshots.{snapshots_of, all_sealed_are_kept}
 
 -- ---- a lane without a choice
 

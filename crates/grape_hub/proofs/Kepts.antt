@@ -1,5 +1,5 @@
 -- What was kept follows what was sealed.
-use Rattle.std.proofs.Common.{◌≡◌, ℕ, ◌⊎◌, inl, inr, Bool, true, not, ◌&&◌, ◌==◌, IsTrue, refl, sym, ◌∙◌, ap, subst, List, [], ◌∷◌, ◌++◌, map, Option, Some, None}
+use Rattle.std.proofs.Common.{◌≡◌, ℕ, inl, inr, not, ◌&&◌, ◌==◌, IsTrue, ◌∙◌, ap, List, [], ◌∷◌, ◌++◌, map, Option, Some, None}
 use Rattle.std.proofs.lemmas.List.{append-nil}
 use Rattle.std.proofs.lemmas.Bool.{and_parts, not-true}
 use Rattle.grape_event.specs.declared.event.Event.{Event}
@@ -11,11 +11,10 @@ use Rattle.legal_journal.specs.Legal.{State, start_state, state_after, state_aft
 use Rattle.legal_journal.specs.Cuts.{snapshots_from, epochs_kept}
 use Rattle.legal_journal.proofs.Listed.{sealed_are_found}
 use Rattle.legal_journal.proofs.Probes.{both}
-use Rattle.grape_hub.specs.HubValues.{HubValues}
-use Rattle.grape_hub.specs.States.{machine, sealed_epoch, IsHub}
+use Rattle.hub_engine.specs.States.{machine, sealed_epoch}
+use Rattle.hub_engine.proofs.Snapshots.{SnapshotsAreInTurn, turn_kept, begins_in_turn}
 use Rattle.grape_hub.specs.Theorems.{waiting_in, KeptsFollowSeals, CutsMayBeResumed}
 use Rattle.grape_hub.proofs.Cuts.{sealed_may_be_resumed}
-use Rattle.grape_hub.proofs.Snapshots.{SnapshotsAreInTurn, turn_kept, begins_in_turn}
 
 row_of : (sys : System) (s : State) (e : Event) → IsTrue (is_admitted sys s e) → IsTrue (row_admits sys s e)
 row_of sys s e h = (and_parts (not (has_ended s.past)) (row_admits sys s e) h).1

@@ -5,13 +5,13 @@ use Rattle.graph_core.specs.Fragments.{Piece, piece_of}
 use Rattle.message_buffer.specs.HandValues.{HandValues}
 use Rattle.pie_core.specs.Solutions.{lowered, local_solution}
 use Rattle.base_machine.specs.Machine.{worker_at, hand_of}
-use Rattle.grape_hub.specs.declared.work.Work.{Work}
-use Rattle.grape_hub.specs.HubValues.{HubValues}
-use Rattle.grape_hub.specs.States.{workers_of, piece_of_worker, IsHub}
-use Rattle.grape_hub.specs.Calls.{IsWork}
+use Rattle.hub_engine.specs.declared.work.Work.{Work}
+use Rattle.hub_engine.specs.HubValues.{HubValues}
+use Rattle.hub_engine.specs.States.{workers_of, piece_of_worker, IsHub}
+use Rattle.hub_engine.specs.Calls.{IsWork}
+use Rattle.hub_engine.proofs.Ready.{piece_is}
+use Rattle.hub_engine.proofs.Ready as ready
 use Rattle.grape_hub.specs.Theorems.{WorksMayBeEvaluated, EvaluatedMayBeGiven}
-use Rattle.grape_hub.proofs.Ready.{piece_is}
-use Rattle.grape_hub.proofs.Ready as ready
 
 -- the piece of a worker that is out is that of its fragment
 own_piece : (h : HubValues) (lane : ℕ) (fresh : Bool) (work : Work) → IsHub h → IsWork h lane fresh work → piece_of_worker h work.worker ≡ piece_of h.job work.worker

@@ -23,20 +23,20 @@ use Rattle.legal_journal.specs.Legal.{State, state_at_end, state_after, row_admi
 use Rattle.legal_journal.specs.Choices.{is_of_lane, is_duty}
 use Rattle.legal_journal.proofs.Choosing.{lane_choices_are_exact, duties_are_exact}
 use Rattle.legal_journal.proofs.Probes.{both, same_count}
-use Rattle.grape_hub.specs.HubValues.{HubValues}
-use Rattle.grape_hub.specs.States.{machine, state_of, workers_of, piece_of_worker, IsHub}
-use Rattle.grape_hub.specs.Calls.{Appended, AppendedUnlessEnded, Unchanged, Begins, Chooses, ChoosesDuty, MayGive, IsGivenUp, AreGivenUp}
-use Rattle.grape_hub.specs.declared.work.Next.{Next}
-use Rattle.grape_hub.specs.declared.work.Next.TheVariants.{Took, Did, Idle, Ended, NoMemory}
-use Rattle.grape_hub.specs.declared.work.Duty.{Duty}
-use Rattle.grape_hub.specs.declared.work.Duty.TheVariants as duty
-use Rattle.grape_hub.specs.declared.work.Work.{Work}
+use Rattle.hub_engine.specs.HubValues.{HubValues}
+use Rattle.hub_engine.specs.States.{machine, state_of, workers_of, piece_of_worker, IsHub}
+use Rattle.hub_engine.specs.Calls.{Appended, AppendedUnlessEnded, Unchanged, Begins, Chooses, ChoosesDuty, MayGive, IsGivenUp, AreGivenUp}
+use Rattle.hub_engine.specs.declared.work.Next.{Next}
+use Rattle.hub_engine.specs.declared.work.Next.TheVariants.{Took, Did, Idle, Ended, NoMemory}
+use Rattle.hub_engine.specs.declared.work.Duty.{Duty}
+use Rattle.hub_engine.specs.declared.work.Duty.TheVariants as duty
+use Rattle.hub_engine.specs.declared.work.Work.{Work}
+use Rattle.hub_engine.proofs.Hubs.{ended_is, piece_count, workers_are, state_grown, ends_with}
+use Rattle.hub_engine.proofs.Formed.{sound, formed}
 use Rattle.grape_hub.specs.declared.lane_record.LaneRecord.{LaneRecord}
 use Rattle.grape_hub.specs.LanedHub.{LanedHub, no_record, new_lanes, lane_at, is_out_at, answer_of, after_answer, AreLanes, IsLanedHub}
 use Rattle.grape_hub.specs.GivenUp.{HoldsGivenUp}
 use Rattle.grape_hub.specs.Notes.{note_of, OthersStay}
-use Rattle.grape_hub.proofs.Hubs.{ended_is, piece_count, workers_are, state_grown, ends_with}
-use Rattle.grape_hub.proofs.Formed.{sound, formed}
 use Rattle.grape_hub.proofs.Calm.{calm_is_free, calm_at_beginning}
 use Rattle.grape_hub.proofs.NoteLaws.{have_lanes}
 use Rattle.grape_hub.proofs.Staying.{admitted_more, free_each, free_from, other_out, stays, from_not, out_with, lane_stays, freed, one_each}

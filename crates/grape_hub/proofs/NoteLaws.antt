@@ -14,10 +14,10 @@ use Rattle.legal_journal.specs.Legal.{State, start_state, state_after, row_admit
 use Rattle.legal_journal.proofs.Walks.{kept_along}
 use Rattle.legal_journal.proofs.Probes.{both, same_count}
 use Rattle.legal_journal.proofs.Cutting.{running_same}
-use Rattle.grape_hub.specs.declared.work.Work.{Work}
-use Rattle.grape_hub.specs.HubValues.{HubValues}
-use Rattle.grape_hub.specs.States.{machine, state_of, workers_of, take_place, IsHub, IsOut}
-use Rattle.grape_hub.specs.Calls.{MayGive}
+use Rattle.hub_engine.specs.declared.work.Work.{Work}
+use Rattle.hub_engine.specs.HubValues.{HubValues}
+use Rattle.hub_engine.specs.States.{machine, state_of, workers_of, take_place, IsHub, IsOut}
+use Rattle.hub_engine.specs.Calls.{MayGive}
 use Rattle.grape_hub.specs.declared.lane_record.LaneRecord.{LaneRecord}
 use Rattle.grape_hub.specs.LanedHub.{LanedHub, lane_at, is_out_at, AreLanes, IsLanedHub}
 use Rattle.grape_hub.specs.Notes.{ground_in, or_zero, listed, numbers_of_job, numbers_of_snapshot, numbers_of_record, numbers_of_work, numbers_out, lane_part, coordinator_part, own_part, own_in, note_of, HasNoWork}

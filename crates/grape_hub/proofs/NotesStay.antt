@@ -1,5 +1,5 @@
 -- Which notes an event leaves as they are.
-use Rattle.std.proofs.Common.{◌≡◌, ℕ, zero, suc, ◌+◌, ◌<◌, ◌⊎◌, inl, inr, Bool, true, false, not, ◌&&◌, ◌==◌, nat_lt, if◌then◌else◌, IsTrue, refl, sym, ◌∙◌, ap, subst, arith, List, [], ◌∷◌, ◌++◌, append-nil, Option, Some, None, length, reverse, flat_map, replicate, slice_index_or}
+use Rattle.std.proofs.Common.{◌≡◌, ℕ, zero, suc, ◌+◌, ◌<◌, ◌⊎◌, inl, inr, Bool, true, false, not, ◌==◌, nat_lt, if◌then◌else◌, IsTrue, refl, sym, ◌∙◌, ap, subst, arith, List, [], ◌∷◌, ◌++◌, append-nil, reverse, flat_map, replicate, slice_index_or}
 use Rattle.std.specs.Bool.{⊤}
 use Rattle.std.specs.List.{range_with_len}
 use Rattle.std.proofs.lemmas.Bool.{and_parts, eqb-true, cases_Bool, false≢true}
@@ -14,14 +14,14 @@ use Rattle.legal_journal.specs.Past.{lane_of, has_ended}
 use Rattle.legal_journal.specs.Legal.{State, start_state, state_after, row_admits, is_admitted, worker_count, is_lane, is_out_with}
 use Rattle.legal_journal.specs.Cuts.{snapshots_from}
 use Rattle.legal_journal.proofs.Probes.{both, same_count}
-use Rattle.grape_hub.specs.HubValues.{HubValues}
-use Rattle.grape_hub.specs.States.{machine, state_of, sealed_epoch, IsHub}
-use Rattle.grape_hub.specs.Calls.{Appended, Unchanged, Begins, is_seal}
+use Rattle.hub_engine.specs.HubValues.{HubValues}
+use Rattle.hub_engine.specs.States.{machine, state_of, sealed_epoch, IsHub}
+use Rattle.hub_engine.specs.Calls.{Appended, Unchanged, Begins, is_seal}
+use Rattle.hub_engine.proofs.Hubs.{state_grown, ended_is}
+use Rattle.hub_engine.proofs.Ready.{with_event}
 use Rattle.grape_hub.specs.declared.lane_record.LaneRecord.{LaneRecord}
 use Rattle.grape_hub.specs.LanedHub.{LanedHub, lane_at, no_record, new_lanes}
 use Rattle.grape_hub.specs.Notes.{ground_of, or_zero, listed, numbers_of_record, numbers_of_work, numbers_out, lane_part, is_stopped_by_disk, numbers_of_cuts, coordinator_part, note_of, OthersStay}
-use Rattle.grape_hub.proofs.Hubs.{state_grown, ended_is}
-use Rattle.grape_hub.proofs.Ready.{with_event}
 use Rattle.grape_hub.proofs.Staying.{touches, Stays, stays, hand_same, not_taken, other_out, giver_out, taker_out, by_lane, same_lane, from_not}
 
 -- ---- whose an event is

@@ -18,13 +18,13 @@ use Rattle.legal_journal.proofs.Walks.{kept_along, journals_grow, state_after_al
 use Rattle.legal_journal.proofs.Choosing.{any_none}
 use Rattle.legal_journal.proofs.Probes.{both, same_count, not_running, ready_to_take}
 use Rattle.legal_journal.proofs.Cutting.{running_same}
-use Rattle.grape_hub.specs.declared.work.Work.{Work}
-use Rattle.grape_hub.specs.HubValues.{HubValues}
-use Rattle.grape_hub.specs.States.{machine, state_of, take_place, IsHub, IsOut}
-use Rattle.grape_hub.specs.Calls.{Appended, IsWork, IsReady}
+use Rattle.hub_engine.specs.declared.work.Work.{Work}
+use Rattle.hub_engine.specs.HubValues.{HubValues}
+use Rattle.hub_engine.specs.States.{machine, state_of, take_place, IsHub, IsOut}
+use Rattle.hub_engine.specs.Calls.{Appended, IsWork, IsReady}
+use Rattle.hub_engine.proofs.Hubs.{state_grown}
+use Rattle.hub_engine.proofs.Ready.{with_event}
 use Rattle.grape_hub.specs.Theorems.{WorksStay, LanesStay}
-use Rattle.grape_hub.proofs.Hubs.{state_grown}
-use Rattle.grape_hub.proofs.Ready.{with_event}
 
 -- ---- what an event leaves of a worker
 

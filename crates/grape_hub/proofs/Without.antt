@@ -8,9 +8,9 @@ use Rattle.legal_journal.specs.Past.{has_ended, recording_is_open, all_are_marke
 use Rattle.legal_journal.specs.Legal.{State, start_state, state_after, worker_count, row_admits, may_seal}
 use Rattle.legal_journal.proofs.Walks.{kept_along}
 use Rattle.legal_journal.proofs.Choosing.{duties_are_exact}
-use Rattle.grape_hub.specs.States.{machine, state_of, sealed_epoch}
+use Rattle.hub_engine.specs.States.{machine, state_of, sealed_epoch}
+use Rattle.hub_engine.proofs.Snapshots.{SnapshotsAreInTurn, turn_kept, begins_in_turn}
 use Rattle.grape_hub.specs.Theorems.{NothingIsSealed}
-use Rattle.grape_hub.proofs.Snapshots.{SnapshotsAreInTurn, turn_kept, begins_in_turn}
 
 -- a Seal needs an open recording, and so snapshots that are asked for
 never_seals : (sys : System) (s : State) (epoch : ℕ) → sys.settings.snapshot ≡ 0 → SnapshotsAreInTurn sys s → row_admits sys s (Seal epoch) ≡ true → ⊥

@@ -3,9 +3,9 @@ use Rattle.std.specs.Prelude.{◌≡◌, ℕ, ◌<◌, true, List, Option, Some,
 use Rattle.pie_core.specs.Locals.{LocalValues}
 use Rattle.legal_journal.specs.Past.{has_ended}
 use Rattle.legal_journal.specs.Legal.{is_out_with}
-use Rattle.grape_hub.specs.States.{state_of, workers_of}
+use Rattle.hub_engine.specs.States.{state_of, workers_of}
+use Rattle.hub_engine.specs.Calls.{IsGivenUp}
 use Rattle.grape_hub.specs.LanedHub.{LanedHub, is_out_at}
-use Rattle.grape_hub.specs.Calls.{IsGivenUp}
 
 -- A worker's Local was given up.
 abbrev pub HasGivenUp : LanedHub → ℕ → List (Option LocalValues) → Type 0

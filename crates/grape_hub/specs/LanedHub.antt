@@ -2,11 +2,11 @@
 use Rattle.std.specs.Prelude.{◌≡◌, ℕ, ◌-◌, ◌+◌, ◌^◌, ◌≤◌, min, ◌==◌, Bool, true, false, List, replicate, length, reverse, slice_index_or, slice_set}
 use Rattle.legal_journal.specs.Past.{has_ended}
 use Rattle.legal_journal.specs.Legal.{has_work_out}
-use Rattle.grape_hub.specs.HubValues.{HubValues}
-use Rattle.grape_hub.specs.States.{state_of, IsHub}
+use Rattle.hub_engine.specs.HubValues.{HubValues}
+use Rattle.hub_engine.specs.States.{state_of, IsHub}
+use Rattle.hub_engine.specs.declared.work.Next.{Next}
+use Rattle.hub_engine.specs.declared.work.Next.TheVariants.{Took, Did, Idle, Ended, NoMemory}
 use Rattle.grape_hub.specs.declared.lane_record.LaneRecord.{LaneRecord}
-use Rattle.grape_hub.specs.declared.work.Next.{Next}
-use Rattle.grape_hub.specs.declared.work.Next.TheVariants.{Took, Did, Idle, Ended, NoMemory}
 
 -- the hub, and for each lane its record
 pub record LanedHub : Type 0 where

@@ -1,13 +1,4 @@
-pub mod HubValues
-pub mod States
 pub mod LanedHub
 pub mod Notes
-pub mod Choices
-pub mod Posting
-pub mod Desks
-pub mod Calls
 pub mod GivenUp
-pub mod Openings
 pub mod Theorems
-pub mod Kinds
-pub mod Hearing

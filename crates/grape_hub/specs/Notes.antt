@@ -22,8 +22,8 @@ use Rattle.token_cut.specs.Parts.{PartValues, SnapshotParts}
 use Rattle.base_machine.specs.Machine.{worker_at, hand_of}
 use Rattle.legal_journal.specs.Legal.{State, worker_count, is_out_with}
 use Rattle.legal_journal.specs.Cuts.{sealed_snapshots}
-use Rattle.grape_hub.specs.HubValues.{HubValues}
-use Rattle.grape_hub.specs.States.{machine, state_of, take_place, sealed_epoch}
+use Rattle.hub_engine.specs.HubValues.{HubValues}
+use Rattle.hub_engine.specs.States.{machine, state_of, take_place, sealed_epoch}
 use Rattle.grape_hub.specs.declared.lane_record.LaneRecord.{LaneRecord}
 use Rattle.grape_hub.specs.LanedHub.{LanedHub, lane_at}
 

@@ -22,11 +22,11 @@ use Rattle.legal_journal.specs.Legal.{has_work_out}
 use Rattle.legal_journal.specs.Choices.{duty_choice}
 use Rattle.legal_journal.specs.Cuts.{sealed_snapshot, sealed_snapshots, epochs_kept}
 use Rattle.legal_journal.specs.Theorems.{IsConsistentCut}
-use Rattle.grape_hub.specs.HubValues.{HubValues}
-use Rattle.grape_hub.specs.declared.work.Work.{Work}
-use Rattle.grape_hub.specs.Calls.{Appended, IsWork, IsReady, MayGive}
-use Rattle.grape_hub.specs.States.{machine, state_of, workers_of, sealed_epoch, IsHub}
-use Rattle.grape_hub.specs.Choices.{MayChoose}
+use Rattle.hub_engine.specs.HubValues.{HubValues}
+use Rattle.hub_engine.specs.declared.work.Work.{Work}
+use Rattle.hub_engine.specs.Calls.{Appended, IsWork, IsReady, MayGive}
+use Rattle.hub_engine.specs.States.{machine, state_of, workers_of, sealed_epoch, IsHub}
+use Rattle.hub_engine.specs.Choices.{MayChoose}
 use Rattle.grape_hub.specs.LanedHub.{LanedHub, lane_at, is_out_at, IsLanedHub}
 use Rattle.grape_hub.specs.Notes.{ground_of, is_stopped_by_disk, numbers_of_cuts, ground_in, own_in, calls_in, answer_in, length_in, note_of, HasNoWork}
 

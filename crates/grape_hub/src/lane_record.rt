@@ -1,7 +1,7 @@
 ghost use Rattle.std.specs.Prelude.{◌≡◌};
 ghost use Rattle.grape_hub.specs.LanedHub.{answer_of, after_answer};
 
-use crate::work::Next;
+use hub_engine::Next;
 
 /// What the hub keeps of a lane: what `next` answered it last, and whether it has a Work out.
 #[derive(Clone, Copy)]

@@ -13,7 +13,7 @@ use Rattle.base_machine.specs.Fitness.{IsInForm}
 use Rattle.legal_journal.specs.Past.{has_ended}
 use Rattle.snapshot_store.specs.State.{FileState}
 use Rattle.snapshot_store.specs.State.FileState.{nothing, last}
-use Rattle.grape_hub.specs.HubValues.{HubValues}
+use Rattle.hub_engine.specs.HubValues.{HubValues}
 use Rattle.grape_hub.specs.Theorems.{CutsMayBeResumed}
 use Rattle.grape_hub.proofs.Answering.{fresh_is_a_start}
 use Rattle.coordinator.specs.declared.story.Story.{Story}

@@ -1,7 +1,7 @@
 -- The line that a run writes where it isn't done, and the words that it takes.
 use Rattle.std.specs.Prelude.{ℕ, ◌+◌, ◌/◌, ◌%◌, List, [], ◌∷◌, ◌++◌, Option, Some, None, codes, decimal, bytes_eq, nat_lt, if◌then◌else◌}
-use Rattle.graph_text.specs.declared.fault.Why.{Why}
-use Rattle.graph_text.specs.declared.fault.Why.TheVariants as causes
+use Rattle.line_statements.specs.declared.why.Why.{Why}
+use Rattle.line_statements.specs.declared.why.Why.TheVariants as causes
 use Rattle.grape_run.specs.declared.status.Status.{Status}
 use Rattle.grape_run.specs.declared.status.Status.TheVariants as status
 use Rattle.grape_run.specs.declared.words.Mode.{Mode}

@@ -14,18 +14,19 @@ use Rattle.graph_core.specs.declared.settings.Cut.{Cut}
 use Rattle.graph_core.specs.declared.settings.Policy.{Policy}
 use Rattle.graph_core.specs.PatternGraph.{PatternGraph}
 use Rattle.graph_core.specs.Graphs.{MAX_VERTICES, MAX_EDGES, MAX_LINKS}
-use Rattle.graph_text.specs.declared.fault.Why.TheVariants as causes
+use Rattle.line_statements.specs.declared.why.Why.TheVariants as causes
 use Rattle.graph_text.specs.declared.fault.TextFault.{TextFault}
 use Rattle.graph_text.specs.declared.fault.TextFault.TheVariants as fault
-use Rattle.graph_text.specs.declared.statement.Question.{Question}
-use Rattle.graph_text.specs.declared.statement.Statement.{Statement}
-use Rattle.graph_text.specs.declared.statement.Statement.TheVariants.{Nothing, Joins, Vertex, Asks, Node, Link, Fragments, Lanes, Snapshots, Cuts, Follows}
-use Rattle.graph_text.specs.NumberSets.{insert_number, is_among}
+use Rattle.line_statements.specs.declared.statement.Question.{Question}
+use Rattle.line_statements.specs.declared.statement.Statement.{Statement}
+use Rattle.line_statements.specs.declared.statement.Statement.TheVariants.{Nothing, Joins, Vertex, Asks, Node, Link, Fragments, Lanes, Snapshots, Cuts, Follows}
+use Rattle.text_lines.specs.NumberSets.{insert_number, is_among}
+use Rattle.text_lines.proofs.Rising.{any-insert}
 use Rattle.graph_text.specs.ReaderState.{GatheredState}
 use Rattle.graph_text.specs.Input.{bad, numbers_with, vertex_numbers, repeats, is_edge, is_link, are_too_many, cause_among, first_of, question_in, fragments_in, lanes_in, cut_in, policy_in, snapshot_in, edge_in, node_in, link_in, pattern_of, has_node}
 use Rattle.graph_text.specs.Gathering.{vertex_in, Holds}
 use Rattle.graph_text.specs.Reader.{Answers}
-use Rattle.graph_text.proofs.Jobs.{IsFew, few, count_edges, count_links, any-insert}
+use Rattle.graph_text.proofs.Jobs.{IsFew, few, count_edges, count_links}
 use Rattle.graph_text.proofs.Numbers.{numbers-push}
 
 -- Which statement repeats another.

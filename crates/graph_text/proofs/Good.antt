@@ -5,13 +5,13 @@ use Rattle.std.specs.List.{AllByRecursion, list_any, cons_option}
 use Rattle.std.specs.Option.{option_or}
 use Rattle.std.specs.Result.{result_ok}
 use Rattle.std.proofs.lemmas.List.Elements.{filter_map-append}
-use Rattle.graph_text.specs.declared.fault.Why.{Why}
-use Rattle.graph_text.specs.declared.fault.Why.TheVariants as causes
-use Rattle.graph_text.specs.Lines.{words_of, is_too_long}
-use Rattle.graph_text.specs.declared.statement.Statement.{Statement}
-use Rattle.graph_text.specs.Statements.{statement_of}
+use Rattle.line_statements.specs.declared.why.Why.{Why}
+use Rattle.line_statements.specs.declared.why.Why.TheVariants as causes
+use Rattle.text_lines.specs.Lines.{words_of, is_too_long}
+use Rattle.line_statements.specs.declared.statement.Statement.{Statement}
+use Rattle.line_statements.specs.Statements.{statement_of}
 use Rattle.graph_text.specs.Input.{BadLine, bad, statements_of, repeats, are_too_many, cause_among, cause_of, first_bad}
-use Rattle.graph_text.proofs.Ranges.{InRange, ok_in_range}
+use Rattle.line_statements.proofs.Ranges.{InRange, ok_in_range}
 
 -- no statement repeats one before it
 abbrev pub AreFresh : List Statement → List Statement → Type 0

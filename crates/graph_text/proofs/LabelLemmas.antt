@@ -1,54 +1,18 @@
--- Labels are set one by one, and are those that the lines give.
-use Rattle.std.proofs.Common.{◌≡◌, ℕ, zero, suc, ◌<◌, ◌≤◌, Bool, true, false, cond, ◌==◌, List, [], ◌∷◌, length, map, Option, Some, None, refl, sym, ◌∙◌, ap, subst, arith, get_or, slice_set}
+-- The labels of vertices are those that the lines give.
+use Rattle.std.proofs.Common.{◌≡◌, ℕ, Bool, true, false, cond, ◌==◌, List, [], ◌∷◌, map, Option, Some, None, refl, sym, ◌∙◌, ap, subst}
 use Rattle.std.specs.Prelude.{filter_map, unwrap_or, All}
 use Rattle.std.specs.List.{AllByRecursion}
 use Rattle.std.specs.Map.{lookup}
 use Rattle.std.specs.Option.{option_or}
-use Rattle.std.proofs.lemmas.Bool.Decides.{nat_tests}
 use Rattle.std.proofs.lemmas.List.Elements.{All-from_recursion}
-use Rattle.graph_text.specs.declared.statement.Statement.{Statement}
-use Rattle.graph_text.specs.declared.statement.Statement.TheVariants.{Vertex}
-use Rattle.graph_text.specs.NumberSets.{RisesOver, DoRise, is_among}
-use Rattle.graph_text.specs.Labels.{label_among, labelled}
+use Rattle.line_statements.specs.declared.statement.Statement.{Statement}
+use Rattle.line_statements.specs.declared.statement.Statement.TheVariants.{Vertex}
+use Rattle.text_lines.specs.NumberSets.{is_among}
+use Rattle.text_lines.specs.Labels.{labelled}
+use Rattle.text_lines.proofs.Rising.{any-insert_new}
 use Rattle.graph_text.specs.Input.{numbers_with, vertex_numbers, first_of, label_in, label_of, vertices_of}
 use Rattle.graph_text.specs.Gathering.{vertex_in}
-use Rattle.graph_text.proofs.Jobs.{eq_self, any-insert_new, any-with_kept}
-use Rattle.graph_text.proofs.Numbers.{rises_to, rest_rises}
-
--- A label more.
-
-apart_above : (a b : ℕ) → a < b → (a == b) ≡ false
-apart_above a b h = grind (arith, nat_tests, h)
-
-apart_below : (a b : ℕ) → b < a → (a == b) ≡ false
-apart_below a b h = grind (arith, nat_tests, h)
-
--- the vertex m, where its label is l or that among the others
-abbrev vertex_with : Bool → ℕ → List (ℕ × ℕ) → ℕ → ℕ × ℕ
-vertex_with c l taken m = (m, unwrap_or (cond c (Some l) (lookup (λ k. k == m) taken)) 0)
-
-others_same : (v : ℕ × ℕ) (taken : List (ℕ × ℕ)) (low : ℕ) (ns : List ℕ) → v.0 ≤ low → RisesOver low ns → labelled (v ∷ taken) ns ≡ labelled taken ns
-others_same v taken low [] le r = refl
-others_same v taken low (m ∷ ns) le r =
-    let apart : (v.0 == m) ≡ false = apart_above v.0 m (omega (arith, le, r.0))
-    in ap (λ c. vertex_with c v.1 taken m ∷ labelled (v ∷ taken) ns) apart
-    ∙ ap (λ vs. (m, label_among taken m) ∷ vs) (others_same v taken m ns (omega (arith, le, r.0)) r.1)
-
--- to set a vertex at its place is to put its label before the others
-pub set_label : (ns : List ℕ) (taken : List (ℕ × ℕ)) (place : ℕ) (v : ℕ × ℕ) → DoRise ns → place < length ns → get_or ns place 0 ≡ v.0 → slice_set (labelled taken ns) place v ≡ labelled (v ∷ taken) ns
-set_label [] taken place v r h e = absurd (omega (arith, h))
-set_label (m ∷ ns) taken zero v r h e =
-    let here : (v.0 == m) ≡ true = ap (λ k. v.0 == k) e ∙ eq_self v.0
-    in ap (λ k. (k, v.1) ∷ labelled taken ns) (sym e)
-    ∙ ap (λ c. vertex_with c v.1 taken m ∷ labelled taken ns) (sym here)
-    ∙ ap (λ vs. vertex_with (v.0 == m) v.1 taken m ∷ vs) (sym (others_same v taken m ns (omega (arith, e)) r))
-set_label (m ∷ ns) taken (suc place) v r h e =
-    let above : m < get_or ns place 0 = rises_to m ns place r (omega (arith, h))
-    in let apart : (v.0 == m) ≡ false = apart_below v.0 m (omega (arith, above, e))
-    in ap (λ vs. (m, label_among taken m) ∷ vs) (set_label ns taken place v (rest_rises m ns r) (omega (arith, h)) e)
-    ∙ ap (λ c. vertex_with c v.1 taken m ∷ labelled (v ∷ taken) ns) (sym apart)
-
--- The labels of lines.
+use Rattle.graph_text.proofs.Jobs.{any-with_kept}
 
 found_step : (c : Bool) (l : ℕ) (o p : Option ℕ) → o ≡ p → cond c (Some l) o ≡ option_or (cond c (Some l) None) p
 found_step true l o p e = refl

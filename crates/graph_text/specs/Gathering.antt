@@ -1,9 +1,9 @@
 -- What has been gathered of the statements so far.
 use Rattle.std.specs.Prelude.{◌≡◌, ℕ, ◌==◌, false, List, filter_map, Option, Some, None}
 use Rattle.std.specs.List.{list_any}
-use Rattle.graph_text.specs.declared.statement.Statement.{Statement}
-use Rattle.graph_text.specs.declared.statement.Statement.TheVariants.{Vertex}
-use Rattle.graph_text.specs.NumberSets.{is_among}
+use Rattle.line_statements.specs.declared.statement.Statement.{Statement}
+use Rattle.line_statements.specs.declared.statement.Statement.TheVariants.{Vertex}
+use Rattle.text_lines.specs.NumberSets.{is_among}
 use Rattle.graph_text.specs.ReaderState.{GatheredState}
 use Rattle.graph_text.specs.Input.{vertex_numbers, are_too_many, first_of, question_in, fragments_in, lanes_in, cut_in, policy_in, snapshot_in, edge_in, node_in, link_in}
 

@@ -16,15 +16,15 @@ use Rattle.graph_core.specs.declared.settings.Settings.{Settings}
 use Rattle.graph_core.specs.declared.job.Job.{Job}
 use Rattle.graph_core.specs.PatternGraph.{PatternGraph}
 use Rattle.graph_core.specs.Graphs.{graph_of, MAX_VERTICES, MAX_EDGES, MAX_LINKS}
-use Rattle.graph_text.specs.declared.fault.Why.{Why}
-use Rattle.graph_text.specs.declared.fault.Why.TheVariants as causes
-use Rattle.graph_text.specs.Lines.{lines_of, words_of, is_ended, is_too_long}
-use Rattle.graph_text.specs.declared.statement.Question.{Question}
-use Rattle.graph_text.specs.declared.statement.Question.TheVariants.{Distances, Labels, Reaches, Simulation}
-use Rattle.graph_text.specs.declared.statement.Statement.{Statement}
-use Rattle.graph_text.specs.declared.statement.Statement.TheVariants.{Joins, Vertex, Asks, Node, Link, Fragments, Lanes, Snapshots, Cuts, Follows}
-use Rattle.graph_text.specs.Statements.{statement_of}
-use Rattle.graph_text.specs.NumberSets.{insert_number, is_among}
+use Rattle.line_statements.specs.declared.why.Why.{Why}
+use Rattle.line_statements.specs.declared.why.Why.TheVariants as causes
+use Rattle.text_lines.specs.Lines.{lines_of, words_of, is_ended, is_too_long}
+use Rattle.line_statements.specs.declared.statement.Question.{Question}
+use Rattle.line_statements.specs.declared.statement.Question.TheVariants.{Distances, Labels, Reaches, Simulation}
+use Rattle.line_statements.specs.declared.statement.Statement.{Statement}
+use Rattle.line_statements.specs.declared.statement.Statement.TheVariants.{Joins, Vertex, Asks, Node, Link, Fragments, Lanes, Snapshots, Cuts, Follows}
+use Rattle.line_statements.specs.Statements.{statement_of}
+use Rattle.text_lines.specs.NumberSets.{insert_number, is_among}
 
 -- a line by its number, from 1, and why it is bad
 pub record BadLine : Type 0 where

@@ -3,7 +3,7 @@ use Rattle.std.specs.Prelude.{◌≡◌, ℕ, List, [], length, flat_map, Option
 use Rattle.graph_core.specs.declared.job.Job.{Job}
 use Rattle.graph_text.specs.declared.fault.TextFault.{TextFault}
 use Rattle.graph_text.specs.declared.fault.TextFault.TheVariants as fault
-use Rattle.graph_text.specs.Lines.{whole_lines, last_line}
+use Rattle.text_lines.specs.Lines.{whole_lines, last_line}
 use Rattle.graph_text.specs.Gathering.{Holds}
 use Rattle.graph_text.specs.Input.{BadLine, bad, statements_of, first_bad, cause_of, shown_of}
 use Rattle.graph_text.specs.ReaderState.{LinesState, TextState, ReaderState}

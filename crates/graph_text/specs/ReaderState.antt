@@ -6,7 +6,7 @@ use Rattle.graph_core.specs.declared.pattern.PatternLink.{PatternLink}
 use Rattle.graph_core.specs.declared.settings.Cut.{Cut}
 use Rattle.graph_core.specs.declared.settings.Policy.{Policy}
 use Rattle.graph_text.specs.declared.fault.TextFault.{TextFault}
-use Rattle.graph_text.specs.declared.statement.Question.{Question}
+use Rattle.line_statements.specs.declared.statement.Question.{Question}
 use Rattle.graph_text.specs.declared.gathered.Gathered.{Gathered}
 use Rattle.graph_text.specs.declared.whole_lines.WholeLines.{WholeLines}
 use Rattle.graph_text.specs.declared.open_text.OpenText.{OpenText}

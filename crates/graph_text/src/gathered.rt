@@ -1,20 +1,19 @@
 ghost use Rattle.std.specs.Prelude.{◌≡◌, ℕ, ◌+◌, List, [], ◌∷◌, ◌++◌, length, filter_map, Ok, None, Some, IsSome, option_map, OnOk, IfOk, IfErr};
 ghost use Rattle.graph_core.specs.Graphs.{IsJob, MakeGraph, graph_of};
-ghost use Rattle.graph_text.specs.declared.statement.Statement.{Statement as Said};
+ghost use Rattle.line_statements.specs.declared.statement.Statement.{Statement as Said};
 ghost use Rattle.graph_text.specs.Input.{bad, cause_among, statements_of, first_bad, cause_of, job_of_lines, vertices_of, settings_of, query_of, missing_source, missing_pattern, missing_for, edge_in};
 ghost use Rattle.graph_text.specs.ReaderState.{gathered_state};
 ghost use Rattle.graph_text.specs.Gathering.{Holds};
 ghost use Rattle.graph_text.specs.Reader.{Answers, Gives};
 
-use crate::fault::{TextFault, Why};
-use crate::labels::with_labels;
-use crate::number_set::NumberSet;
+use crate::fault::TextFault;
 use crate::pattern_lines::{has_node, is_whole};
-use crate::statement::{Question, Statement};
 use graph_core::{
     Cut, Edge, Graph, Job, Pattern, PatternLink, PatternNode, Policy, Query, Settings,
 };
+use line_statements::{Question, Statement, Why};
 use std::alloc::Global;
+use text_lines::{NumberSet, with_labels};
 
 /// The most edge lines.
 const MAX_EDGES: usize = 4_000_000;

@@ -4,32 +4,25 @@
 //! the piece that ends it, or that makes it too long. It keeps what the lines say, and of the text no more than one line
 //! that a piece cut.
 //!
-//! What the words of one line say is read without the others, as a `statement`: by `line_words`, for queries by
-//! `query_lines` and for settings by `setting_lines`. Which lines repeat another, or are too many, stands in module
-//! `gathered`, above a set of vertex numbers (`number_set`, over `flag_set`) and the labels beside them (`labels`). Whether
-//! nodes and links make a pattern stands in `pattern_lines`.
+//! `open_text` cuts the bytes into lines, and `whole_lines` judges each by its length, by what it says alone and by what is
+//! gathered of those before it. Which lines repeat another, or are too many, stands in module `gathered`; whether nodes and
+//! links make a pattern, in `pattern_lines`. Lines and sets of numbers are those of `text_lines`, and what a line says is a
+//! statement of `line_statements`.
 #![tactic(auto)]
 
 mod fault;
-mod flag_set;
 mod gathered;
-mod labels;
 mod laws;
 mod line_reader;
-mod line_words;
-mod number_set;
 mod open_text;
 mod pattern_lines;
-mod query_lines;
-mod setting_lines;
-mod statement;
 #[cfg(test)]
 mod tests;
 mod whole_lines;
-mod words;
 mod worked;
 
-pub use fault::{TextFault, Why};
+pub use fault::TextFault;
 pub use laws::{input_is_job, shown_is_first};
 pub use line_reader::LineReader;
+pub use line_statements::Why;
 pub use worked::rows;

@@ -1,7 +1,7 @@
 ghost use Rattle.std.specs.Prelude.{◌≡◌, ◌≤◌, ℕ, ◌++◌, List, [], length, IfErr, OnOk, IfOk};
 ghost use Rattle.graph_core.specs.Graphs.{IsJob};
 ghost use Rattle.graph_text.specs.declared.fault.TextFault.{TextFault};
-ghost use Rattle.graph_text.specs.Lines.{MAX_INPUT};
+ghost use Rattle.text_lines.specs.Lines.{MAX_INPUT};
 ghost use Rattle.graph_text.specs.Input.{input_of, shown_of};
 ghost use Rattle.graph_text.specs.Reader.{HasRead, HasFailed, Answers, Gives};
 

@@ -1,12 +1,12 @@
 ghost use Rattle.std.specs.Prelude.{◌≡◌, ℕ, ◌+◌, ◌<◌, ◌≤◌, List, [], ◌∷◌, ◌++◌, length, Some, OnOk, IfOk, MatchOption};
-ghost use Rattle.graph_text.specs.Lines.{HasNoLineFeed, IsOneLine};
+ghost use Rattle.text_lines.specs.Lines.{HasNoLineFeed, IsOneLine};
 
 use crate::fault::TextFault;
 use crate::whole_lines::WholeLines;
 use grape_port::NoMemory;
 use graph_core::Job;
-use memchr::memchr;
 use std::alloc::Global;
+use text_lines::split_line;
 
 /// The most bytes of a line, with its line feed.
 const LINE_ROOM: usize = 4_097;
@@ -96,12 +96,4 @@ impl OpenText {
         whole.take_last(&line)?;
         whole.into_job()
     }
-}
-
-/// The bytes up to the first line feed, with it, and those behind it.
-fn split_line(text: &[u8]) -> Option<(&[u8], &[u8])>
-    ensures { MatchOption result (HasNoLineFeed text.now) (λ parts. IsOneLine parts.0.now × (parts.0.now ++ parts.1.now ≡ text.now)) }
-{
-    let at = memchr(b'\n', text)?;
-    Some(text.split_at(at + 1))
 }

@@ -5,7 +5,6 @@ use std::process::Abort;
 
 mod jobs;
 mod lines;
-mod number_sets;
 mod patterns;
 mod policies;
 mod refused;

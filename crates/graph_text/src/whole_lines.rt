@@ -1,12 +1,12 @@
 ghost use Rattle.std.specs.Prelude.{◌≡◌, ℕ, ◌+◌, ◌<◌, ◌≤◌, ◌||◌, nat_lt, List, [], ◌∷◌, ◌++◌, length, Ok, option_map, OnOk, IfOk};
-ghost use Rattle.graph_text.specs.Lines.{lines_of, before_line_feed, HasNoLineFeed};
+ghost use Rattle.text_lines.specs.Lines.{lines_of, before_line_feed, HasNoLineFeed};
 
-use crate::fault::{TextFault, Why};
+use crate::fault::TextFault;
 use crate::gathered::Gathered;
-use crate::line_words::read_statement;
-use crate::statement::Statement;
 use graph_core::Job;
+use line_statements::{Statement, Why, read_statement};
 use std::alloc::Global;
+use text_lines::length_before_line_feed;
 
 /// The most bytes of a line before its line feed.
 const MAX_LINE: u64 = 4_096;
@@ -26,7 +26,7 @@ pub(crate) struct WholeLines {
 
 impl WholeLines {
     ghost use Rattle.graph_core.specs.Graphs.{IsJob};
-    ghost use Rattle.graph_text.specs.declared.statement.Statement.{Statement as Said};
+    ghost use Rattle.line_statements.specs.declared.statement.Statement.{Statement as Said};
     ghost use Rattle.graph_text.specs.Input.{bad, cause_among, first_bad, cause_of, job_of_lines};
     ghost use Rattle.graph_text.specs.ReaderState.{gathered_state, lines_state};
     ghost use Rattle.graph_text.specs.Gathering.{Holds};
@@ -114,16 +114,5 @@ impl WholeLines {
     {
         let line = self.count + 1;
         self.gathered.into_job(line)
-    }
-}
-
-/// How many bytes a line has before its line feed.
-fn length_before_line_feed(line: &[u8]) -> usize
-    ensures { result ≡ length (before_line_feed line.now) }
-{
-    if !line.is_empty() && line[line.len() - 1] == b'\n' {
-        line.len() - 1
-    } else {
-        line.len()
     }
 }

@@ -2,8 +2,8 @@ ghost use Rattle.std.specs.Prelude.{◌≡◌, [], codes, replicate};
 ghost use Rattle.graph_text.specs.Input.{input_of, shown_of, bad};
 ghost use Rattle.graph_text.specs.Rows.{detour_job, to_and_fro, alone_job, labelled_job, empty_job, empty_under, empty_with_snapshots, download_job, cycle_job, unused_job};
 
-use crate::fault::Why;
 use graph_core::Policy;
+use line_statements::Why;
 
 /// Worked inputs are these jobs, and a bad line is found with its number and cause.
 pub fn rows()

@@ -14,8 +14,8 @@ use Rattle.base_machine.specs.Machine.{system_of, fresh_part, fresh_snapshot}
 use Rattle.atomic_table.specs.Seated.{TableId}
 use Rattle.noted_lock.specs.declared.seat.LockSeat.{LockSeat}
 use Rattle.noted_lock.specs.Sights.{IsSeat, AreSeats}
+use Rattle.hub_engine.specs.Calls.{Begins}
 use Rattle.grape_hub.specs.declared.lane_record.LaneRecord.{LaneRecord}
-use Rattle.grape_hub.specs.Calls.{Begins}
 use Rattle.grape_hub.specs.LanedHub.{LanedHub, is_out_at, no_record, new_lanes, IsLanedHub}
 use Rattle.grape_hub.specs.Notes.{ground_of, ground_in, note_of, HasNoWork}
 use Rattle.grape_hub.specs.Theorems.{NotesBegin, EmptyIsFree}

@@ -9,11 +9,11 @@ use Rattle.message_buffer.specs.HandValues.{HandValues}
 use Rattle.pie_core.specs.Locals.{LocalValues}
 use Rattle.pie_core.specs.Solutions.{lowered, local_solution}
 use Rattle.pie_core.specs.Evaluations.{MayEvaluate}
-use Rattle.grape_hub.specs.declared.work.Work.{Work}
-use Rattle.grape_hub.specs.HubValues.{HubValues}
-use Rattle.grape_hub.specs.States.{IsHub}
-use Rattle.grape_hub.specs.Calls.{IsWork}
-use Rattle.grape_hub.proofs.Ready.{worker_in_range}
+use Rattle.hub_engine.specs.declared.work.Work.{Work}
+use Rattle.hub_engine.specs.HubValues.{HubValues}
+use Rattle.hub_engine.specs.States.{IsHub}
+use Rattle.hub_engine.specs.Calls.{IsWork}
+use Rattle.hub_engine.proofs.Ready.{worker_in_range}
 
 -- the fragment of a Work is there, and is its worker's
 pub worker_has_part : (h : HubValues) (lane : ℕ) (fresh : Bool) (work : Work) (parts : List FragmentLists) → IsHub h → IsWork h lane fresh work → parts ≡ fragments_of h.job → work.worker < length parts

@@ -8,12 +8,12 @@ use Rattle.grape_event.specs.declared.event.Event.TheVariants.{Stop}
 use Rattle.grape_event.specs.declared.event.StopCause.TheVariants.{Memory}
 use Rattle.token_cut.specs.Parts.{SnapshotParts}
 use Rattle.legal_journal.specs.Past.{has_ended}
-use Rattle.grape_hub.specs.declared.work.Work.{Work}
-use Rattle.grape_hub.specs.declared.work.Next.{Next}
-use Rattle.grape_hub.specs.declared.work.Next.TheVariants.{Took, Did, Idle, Ended, NoMemory}
+use Rattle.hub_engine.specs.declared.work.Work.{Work}
+use Rattle.hub_engine.specs.declared.work.Next.{Next}
+use Rattle.hub_engine.specs.declared.work.Next.TheVariants.{Took, Did, Idle, Ended, NoMemory}
+use Rattle.hub_engine.specs.HubValues.{HubValues}
+use Rattle.hub_engine.specs.Calls.{Appended, AppendedUnlessEnded, Unchanged, Chooses, IsWork, MayGive, ReadyWhereTook}
 use Rattle.grape_hub.specs.declared.lane_record.LaneRecord.{LaneRecord}
-use Rattle.grape_hub.specs.HubValues.{HubValues}
-use Rattle.grape_hub.specs.Calls.{Appended, AppendedUnlessEnded, Unchanged, Chooses, IsWork, MayGive, ReadyWhereTook}
 use Rattle.grape_hub.specs.LanedHub.{LanedHub, lane_at, is_out_at, no_record, answer_of, after_answer, after_give, lanes_after_answer, lanes_after_give, IsLanedHub}
 use Rattle.grape_hub.specs.Notes.{ground_of, ground_in, calls_in, answer_in, note_of, HasNoWork}
 use Rattle.grape_hub.specs.Theorems.{GroundsTell, NotesBegin, EmptyIsFree, RecordsTell, WorksTell}

@@ -7,11 +7,11 @@ use Rattle.grape_event.specs.declared.event.Event.TheVariants.{Stop}
 use Rattle.grape_event.specs.declared.event.StopCause.TheVariants.{Memory}
 use Rattle.token_cut.specs.Parts.{SnapshotParts}
 use Rattle.legal_journal.specs.Past.{has_ended}
-use Rattle.grape_hub.specs.declared.work.Work.{Work}
-use Rattle.grape_hub.specs.declared.work.Next.{Next}
-use Rattle.grape_hub.specs.declared.work.Next.TheVariants as next
-use Rattle.grape_hub.specs.HubValues.{HubValues}
-use Rattle.grape_hub.specs.Calls.{Appended, Unchanged, Chooses, IsWork, IsReady, MayGive}
+use Rattle.hub_engine.specs.declared.work.Work.{Work}
+use Rattle.hub_engine.specs.declared.work.Next.{Next}
+use Rattle.hub_engine.specs.declared.work.Next.TheVariants as next
+use Rattle.hub_engine.specs.HubValues.{HubValues}
+use Rattle.hub_engine.specs.Calls.{Appended, Unchanged, Chooses, IsWork, IsReady, MayGive}
 use Rattle.grape_hub.specs.LanedHub.{LanedHub, is_out_at, IsLanedHub}
 use Rattle.grape_hub.specs.Notes.{ground_of, ground_in, note_of, HasNoWork}
 use Rattle.lane_loop.specs.declared.served.Served.{Served}

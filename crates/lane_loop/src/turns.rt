@@ -1,8 +1,8 @@
 ghost use Rattle.std.specs.Prelude.{◌≡◌, ◌+◌, ◌-◌, ◌^◌, min};
 ghost use Rattle.noted_lock.specs.Sights.{lock_id, seat_lock, seat_number, seat_count, seat_note};
 ghost use Rattle.grape_event.specs.declared.event.Event.TheVariants.{Give};
+ghost use Rattle.hub_engine.specs.Calls.{AppendedUnlessEnded};
 ghost use Rattle.grape_hub.specs.LanedHub.{answer_of};
-ghost use Rattle.grape_hub.specs.Calls.{AppendedUnlessEnded};
 ghost use Rattle.grape_hub.specs.Notes.{ground_in, calls_in, answer_in, note_of, HasNoWork, OthersStay};
 ghost use Rattle.lane_loop.specs.Turns.{HasLane, IsOfJob, Answers, HasOut, HasEvaluated, IsOutWhereTook, ChoosesOrStops, lacks_memory};
 

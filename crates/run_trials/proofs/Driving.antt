@@ -22,17 +22,17 @@ use Rattle.legal_journal.specs.Past.{has_ended, lane_of}
 use Rattle.legal_journal.specs.Choices.{is_of_lane, is_duty}
 use Rattle.legal_journal.specs.Legal.{State, worker_count, is_lane, is_out_with, has_work_out}
 use Rattle.legal_journal.proofs.Choosing.{duties_are_exact, lane_choices_are_exact}
-use Rattle.grape_hub.specs.declared.work.Work.{Work}
-use Rattle.grape_hub.specs.HubValues.{HubValues}
-use Rattle.grape_hub.specs.States.{machine, state_of, sealed_epoch, IsHub, IsOut}
+use Rattle.hub_engine.specs.declared.work.Work.{Work}
+use Rattle.hub_engine.specs.HubValues.{HubValues}
+use Rattle.hub_engine.specs.States.{machine, state_of, sealed_epoch, IsHub, IsOut}
+use Rattle.hub_engine.specs.declared.work.Duty.TheVariants as duty
+use Rattle.hub_engine.specs.declared.work.Next.TheVariants.{Took, Did}
+use Rattle.hub_engine.specs.Desks.{has_taken}
+use Rattle.hub_engine.specs.Calls.{Appended, AppendedUnlessEnded, Unchanged, Begins, Chooses, ChoosesDuty, WritesSealed, IsWork, IsReady, HasSizesOf, is_seal}
+use Rattle.hub_engine.proofs.Hubs.{state_grown, zipped_length, past_of}
 use Rattle.grape_hub.specs.LanedHub.{LanedHub, IsLanedHub, is_out_at}
-use Rattle.grape_hub.specs.declared.work.Duty.TheVariants as duty
-use Rattle.grape_hub.specs.declared.work.Next.TheVariants.{Took, Did}
-use Rattle.grape_hub.specs.Desks.{has_taken}
-use Rattle.grape_hub.specs.Calls.{Appended, AppendedUnlessEnded, Unchanged, Begins, Chooses, ChoosesDuty, WritesSealed, IsWork, IsReady, HasSizesOf, is_seal}
 use Rattle.grape_hub.proofs.Calm.{calm_is_free, calm_at_beginning}
 use Rattle.grape_hub.proofs.Cuts.{sealed_may_be_resumed}
-use Rattle.grape_hub.proofs.Hubs.{state_grown, zipped_length, past_of}
 use Rattle.grape_hub.proofs.Staying.{works_stay, lanes_stay}
 use Rattle.run_trials.specs.Lanes.{HasOut, LaneKeeps, GoesAlong, IsDriven}
 

@@ -3,11 +3,11 @@ use Rattle.std.specs.Prelude.{◌≡◌, ℕ, Bool, false, Option, Some, None}
 use Rattle.token_cut.specs.Parts.{SnapshotParts}
 use Rattle.base_machine.specs.Fitness.{IsInForm}
 use Rattle.legal_journal.specs.Legal.{has_work_out}
-use Rattle.grape_hub.specs.declared.work.Work.{Work}
-use Rattle.grape_hub.specs.HubValues.{HubValues}
-use Rattle.grape_hub.specs.States.{machine, state_of, sealed_epoch}
+use Rattle.hub_engine.specs.declared.work.Work.{Work}
+use Rattle.hub_engine.specs.HubValues.{HubValues}
+use Rattle.hub_engine.specs.States.{machine, state_of, sealed_epoch}
+use Rattle.hub_engine.specs.Calls.{IsWork, IsReady}
 use Rattle.grape_hub.specs.LanedHub.{LanedHub, IsLanedHub}
-use Rattle.grape_hub.specs.Calls.{IsWork, IsReady}
 
 -- a Work that may be evaluated, or nothing
 abbrev pub HasOut : HubValues → ℕ → Option Work → Type 0

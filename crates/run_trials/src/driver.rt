@@ -5,7 +5,7 @@ ghost use Rattle.graph_core.specs.Graphs.{IsJob};
 ghost use Rattle.graph_core.specs.Fragments.{fragments_of};
 ghost use Rattle.base_machine.specs.Machine.{System, system_of};
 ghost use Rattle.base_machine.specs.Fitness.{IsInForm};
-ghost use Rattle.grape_hub.specs.States.{machine};
+ghost use Rattle.hub_engine.specs.States.{machine};
 ghost use Rattle.grape_hub.specs.LanedHub.{IsLanedHub};
 ghost use Rattle.run_trials.specs.Lanes.{IsDriven};
 

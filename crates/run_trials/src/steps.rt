@@ -5,7 +5,7 @@ ghost use Rattle.graph_core.specs.Fragments.{fragments_of};
 ghost use Rattle.base_machine.specs.Fitness.{IsInForm};
 ghost use Rattle.legal_journal.specs.Past.{has_ended};
 ghost use Rattle.legal_journal.specs.Legal.{has_work_out};
-ghost use Rattle.grape_hub.specs.States.{machine, state_of, sealed_epoch};
+ghost use Rattle.hub_engine.specs.States.{machine, state_of, sealed_epoch};
 ghost use Rattle.grape_hub.specs.LanedHub.{IsLanedHub};
 ghost use Rattle.run_trials.specs.Lanes.{HasOut, LaneKeeps, GoesAlong, IsDriven};
 

@@ -1,8 +1,8 @@
 use Rattle.std.proofs.Common.{◌∙◌, refl, sym, ap, subst}
 use Rattle.graph_core.specs.declared.job.Job.{Job}
-use Rattle.grape_hub.specs.declared.work.Duty.{Duty}
-use Rattle.grape_hub.specs.declared.work.Duty.TheVariants as duty
-use Rattle.grape_hub.specs.Calls.{ChoosesDuty, WritesSealed}
+use Rattle.hub_engine.specs.declared.work.Duty.{Duty}
+use Rattle.hub_engine.specs.declared.work.Duty.TheVariants as duty
+use Rattle.hub_engine.specs.Calls.{ChoosesDuty, WritesSealed}
 use Rattle.lane_loop.proofs.Steps.{stops_after}
 use Rattle.coordinator.specs.Keeping.{HasSizesFor}
 use Rattle.coordinator.proofs.Visits.{told, or_stops, duty_leaves}

@@ -3,7 +3,7 @@ use Rattle.graph_core.specs.declared.job.Job.{Job}
 use Rattle.grape_event.specs.declared.event.Event.TheVariants.{Kept}
 use Rattle.grape_event.specs.JournalList.{JournalList}
 use Rattle.legal_journal.specs.Past.{has_ended}
-use Rattle.grape_hub.specs.Calls.{Appended}
+use Rattle.hub_engine.specs.Calls.{Appended}
 use Rattle.coordinator.proofs.Visits.{told, kept_leaves}
 use Rattle.coordinator.proofs.duties.serve_kept.Goals as goal
 

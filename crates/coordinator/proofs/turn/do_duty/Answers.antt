@@ -4,11 +4,11 @@ use Rattle.grape_event.specs.declared.event.StopCause.{StopCause}
 use Rattle.token_cut.specs.Parts.{SnapshotParts}
 use Rattle.token_cut.specs.Shapes.{Starts, IsShape}
 use Rattle.token_cut.specs.Form.{IsInSlotForm}
-use Rattle.grape_hub.specs.declared.work.Duty.{Duty}
-use Rattle.grape_hub.specs.declared.work.Duty.TheVariants.{Sealed}
-use Rattle.grape_hub.specs.HubValues.{HubValues}
-use Rattle.grape_hub.specs.States.{machine, state_of}
-use Rattle.grape_hub.specs.Calls.{ChoosesDuty, WritesSealed}
+use Rattle.hub_engine.specs.declared.work.Duty.{Duty}
+use Rattle.hub_engine.specs.declared.work.Duty.TheVariants.{Sealed}
+use Rattle.hub_engine.specs.HubValues.{HubValues}
+use Rattle.hub_engine.specs.States.{machine, state_of}
+use Rattle.hub_engine.specs.Calls.{ChoosesDuty, WritesSealed}
 use Rattle.grape_hub.specs.Theorems.{IsCalm}
 use Rattle.coordinator.specs.Shapes.{shape_of}
 use Rattle.coordinator.specs.Turns.{HasNoDuty}
@@ -26,7 +26,7 @@ record IsSealed (old sealed : HubValues) (epoch : ℕ) (s : SnapshotParts) : Typ
   chosen : ChoosesDuty old (Sealed epoch) sealed
   next : IsSealedNext old sealed epoch s
 
-sealed_at : SealsMayBeKept → (old sealed : HubValues) (epoch : ℕ) (before s : SnapshotParts) (r : Duty) → r ≡ Sealed epoch → Rattle.grape_hub.specs.States.IsHub old → ChoosesDuty old r sealed → Rattle.grape_hub.specs.States.IsHub sealed → WritesSealed r sealed before s → IsSealed old sealed epoch s
+sealed_at : SealsMayBeKept → (old sealed : HubValues) (epoch : ℕ) (before s : SnapshotParts) (r : Duty) → r ≡ Sealed epoch → Rattle.hub_engine.specs.States.IsHub old → ChoosesDuty old r sealed → Rattle.hub_engine.specs.States.IsHub sealed → WritesSealed r sealed before s → IsSealed old sealed epoch s
 sealed_at may old sealed epoch before s r is hub chose hub-2 wrote =
     let chosen = subst (λ (q : Duty). ChoosesDuty old q sealed) is chose in
     record { chosen = chosen; next = may old sealed epoch s hub chosen.1 hub-2 (subst (λ (q : Duty). WritesSealed q sealed before s) is wrote) }

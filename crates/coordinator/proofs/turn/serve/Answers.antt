@@ -2,12 +2,12 @@ use Rattle.std.proofs.Common.{◌≡◌, inl, inr, not, sym, ◌∙◌, ap, subs
 use Rattle.graph_core.specs.declared.job.Job.{Job}
 use Rattle.graph_core.specs.Queries.{equations_of}
 use Rattle.graph_core.specs.Fragments.{fragments_of, fragment_of}
-use Rattle.grape_hub.specs.declared.work.Next.{Next}
-use Rattle.grape_hub.specs.HubValues.{HubValues}
-use Rattle.grape_hub.specs.States.{state_of}
+use Rattle.hub_engine.specs.declared.work.Next.{Next}
+use Rattle.hub_engine.specs.HubValues.{HubValues}
+use Rattle.hub_engine.specs.States.{state_of}
+use Rattle.hub_engine.specs.Desks.{has_taken}
+use Rattle.hub_engine.specs.Calls.{Chooses, ReadyWhereTook}
 use Rattle.grape_hub.specs.LanedHub.{lanes_after_answer}
-use Rattle.grape_hub.specs.Desks.{has_taken}
-use Rattle.grape_hub.specs.Calls.{Chooses, ReadyWhereTook}
 use Rattle.grape_hub.specs.Theorems.{IsCalm}
 use Rattle.coordinator.specs.Turns.{ServesOrStops}
 use Rattle.lane_loop.proofs.Steps.{stops_after}

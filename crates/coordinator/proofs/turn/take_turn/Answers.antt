@@ -1,5 +1,5 @@
 use Rattle.std.proofs.Common.{ℕ, sym, ap, subst}
-use Rattle.grape_hub.specs.HubValues.{HubValues}
+use Rattle.hub_engine.specs.HubValues.{HubValues}
 use Rattle.coordinator.specs.Turns.{GoesOn}
 use Rattle.coordinator.specs.Keeping.{IsGoing, TurnLeaves, TurnKeeps}
 use Rattle.coordinator.specs.declared.keeper.Keeper.{Keeper}

@@ -1,4 +1,4 @@
-use Rattle.grape_hub.proofs.Formed.{hub_runs}
+use Rattle.hub_engine.proofs.Formed.{hub_runs}
 use Rattle.grape_hub.proofs.laws.hubs_run.Goals as goal
 
 pub returns : goal.returns

@@ -1,6 +1,6 @@
 use Rattle.std.proofs.Common.{◌≡◌, ℕ, ◌≤◌, List, length}
 use Rattle.grape_port.specs.Ports.{TakesFront}
-use Rattle.graph_text.specs.Lines.{MAX_INPUT}
+use Rattle.text_lines.specs.Lines.{MAX_INPUT}
 use Rattle.graph_text.specs.Reader.{HasRead}
 use Rattle.grape_run.proofs.input.read_job.Given as goal
 

@@ -1,7 +1,7 @@
 use Rattle.std.proofs.Common.{◌≡◌, ℕ, List, ◌++◌, Option, codes, decimal, subst, ◌∙◌}
 use Rattle.grape_port.specs.Ports.{Appends, AppendsFront}
 use Rattle.grape_port.proofs.Writes.{appends_both}
-use Rattle.graph_text.specs.declared.fault.Why.{Why}
+use Rattle.line_statements.specs.declared.why.Why.{Why}
 use Rattle.grape_run.specs.Notes.{why_text, bad_line_text}
 use Rattle.grape_run.proofs.Parts.{on_err, front_behind, front_longer, ok_behind, err_behind}
 use Rattle.grape_run.proofs.notes.write_bad_line.Goals as goal

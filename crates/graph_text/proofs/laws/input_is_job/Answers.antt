@@ -1,12 +1,12 @@
 use Rattle.std.proofs.Common.{◌≡◌, ℕ, List, [], Option, Some, None, refl, length}
 use Rattle.std.specs.Prelude.{IfOk}
 use Rattle.graph_core.specs.Graphs.{IsJob}
-use Rattle.graph_text.specs.declared.fault.Why.{Why}
-use Rattle.graph_text.specs.Lines.{lines_of}
-use Rattle.graph_text.specs.declared.statement.Question.{Question}
-use Rattle.graph_text.specs.declared.statement.Statement.{Statement}
+use Rattle.line_statements.specs.declared.why.Why.{Why}
+use Rattle.text_lines.specs.Lines.{lines_of}
+use Rattle.line_statements.specs.declared.statement.Question.{Question}
+use Rattle.line_statements.specs.declared.statement.Statement.{Statement}
 use Rattle.graph_text.specs.Input.{BadLine, statements_of, first_bad, cause_of, first_of, question_in, missing_for, job_unless, job_or_cause, job_or_bad, job_of_lines}
-use Rattle.graph_text.proofs.Ranges.{AsksInRange}
+use Rattle.line_statements.proofs.Ranges.{AsksInRange}
 use Rattle.graph_text.proofs.Good.{AreGood, good_text}
 use Rattle.graph_text.proofs.Jobs.{asks_in_range, job_is_job}
 use Rattle.graph_text.proofs.laws.input_is_job.Goals as goal

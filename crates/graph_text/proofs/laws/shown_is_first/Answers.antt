@@ -1,5 +1,5 @@
 use Rattle.std.proofs.Common.{ap, ◌++◌}
-use Rattle.graph_text.specs.Lines.{lines_of}
+use Rattle.text_lines.specs.Lines.{lines_of}
 use Rattle.graph_text.specs.Input.{job_of_lines}
 use Rattle.graph_text.proofs.Cuts.{shown_first}
 use Rattle.graph_text.proofs.laws.shown_is_first.Goals as goal

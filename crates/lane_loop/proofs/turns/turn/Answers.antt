@@ -1,6 +1,6 @@
 use Rattle.std.proofs.Common.{◌<◌, inl, inr, sym, ◌∙◌, ap, subst}
 use Rattle.noted_lock.specs.Sights.{seat_number, seat_note, inside_number, inside_value}
-use Rattle.grape_hub.specs.declared.work.Next.TheVariants.{Took, Did, Idle, Ended, NoMemory}
+use Rattle.hub_engine.specs.declared.work.Next.TheVariants.{Took, Did, Idle, Ended, NoMemory}
 use Rattle.grape_hub.specs.LanedHub.{LanedHub}
 use Rattle.grape_hub.specs.Notes.{ground_in, note_of, HasNoWork}
 use Rattle.lane_loop.proofs.Steps.{told_of, seat_answered}

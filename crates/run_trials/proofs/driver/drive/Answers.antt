@@ -1,5 +1,5 @@
 use Rattle.std.proofs.Common.{sym, ◌∙◌}
-use Rattle.grape_hub.specs.States.{machine}
+use Rattle.hub_engine.specs.States.{machine}
 use Rattle.run_trials.proofs.Driving.{form_stays}
 use Rattle.run_trials.proofs.driver.drive.Goals as goal
 

@@ -1,7 +1,7 @@
 use Rattle.std.proofs.Common.{◌≡◌}
 use Rattle.std.specs.Prelude.{All}
 use Rattle.base_machine.specs.Fitness.{IsInForm}
-use Rattle.grape_hub.specs.States.{machine}
+use Rattle.hub_engine.specs.States.{machine}
 use Rattle.run_trials.specs.Lanes.{IsDriven}
 use Rattle.run_trials.proofs.driver.drive.Given as goal
 

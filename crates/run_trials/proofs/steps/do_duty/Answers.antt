@@ -1,6 +1,6 @@
 use Rattle.std.proofs.Common.{subst}
-use Rattle.grape_hub.specs.declared.work.Duty.{Duty}
-use Rattle.grape_hub.specs.Calls.{ChoosesDuty, WritesSealed}
+use Rattle.hub_engine.specs.declared.work.Duty.{Duty}
+use Rattle.hub_engine.specs.Calls.{ChoosesDuty, WritesSealed}
 use Rattle.run_trials.proofs.Driving.{form_sizes, may_keep, duty_sealed, duty_did, duty_none, duty_failed}
 use Rattle.run_trials.proofs.steps.do_duty.Goals as goal
 

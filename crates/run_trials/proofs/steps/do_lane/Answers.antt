@@ -1,5 +1,5 @@
 use Rattle.std.proofs.Common.{subst, Option}
-use Rattle.grape_hub.specs.declared.work.Work.{Work}
+use Rattle.hub_engine.specs.declared.work.Work.{Work}
 use Rattle.run_trials.specs.Lanes.{HasOut}
 use Rattle.run_trials.proofs.steps.do_lane.Goals as goal
 

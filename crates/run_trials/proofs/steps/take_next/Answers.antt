@@ -1,6 +1,6 @@
 use Rattle.std.proofs.Common.{subst}
-use Rattle.grape_hub.specs.declared.work.Next.{Next}
-use Rattle.grape_hub.specs.Calls.{Chooses, ReadyWhereTook}
+use Rattle.hub_engine.specs.declared.work.Next.{Next}
+use Rattle.hub_engine.specs.Calls.{Chooses, ReadyWhereTook}
 use Rattle.run_trials.proofs.Driving.{free_by_record, lane_took, lane_did, lane_none, lane_failed}
 use Rattle.run_trials.proofs.steps.take_next.Goals as goal
 

@@ -1,5 +1,5 @@
 use Rattle.std.proofs.Common.{◌≡◌, refl, sym, subst, None}
-use Rattle.grape_hub.specs.States.{state_of, sealed_epoch}
+use Rattle.hub_engine.specs.States.{state_of, sealed_epoch}
 use Rattle.grape_hub.specs.LanedHub.{LanedHub}
 use Rattle.grape_hub.specs.Notes.{OthersStay}
 use Rattle.grape_hub.proofs.LanesKept.{duty_call_keeps}

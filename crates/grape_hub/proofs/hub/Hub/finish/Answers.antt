@@ -1,6 +1,6 @@
 use Rattle.std.proofs.Common.{◌≡◌, ◌<◌, ℕ, false, sym, subst}
+use Rattle.hub_engine.specs.Calls.{HaveValues, HaveStartValues}
 use Rattle.grape_hub.specs.LanedHub.{LanedHub, is_out_at}
-use Rattle.grape_hub.specs.Calls.{HaveValues, HaveStartValues}
 use Rattle.grape_hub.proofs.LanesKept.{all_given_up}
 use Rattle.grape_hub.proofs.hub.Hub.finish.Goals as goal
 

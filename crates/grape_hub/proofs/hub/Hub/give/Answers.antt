@@ -2,11 +2,11 @@ use Rattle.std.proofs.Common.{◌≡◌, true, false, refl, sym, ◌∙◌, ap, 
 use Rattle.grape_event.specs.declared.event.Event.TheVariants.{Give}
 use Rattle.grape_event.specs.JournalList.{JournalList}
 use Rattle.legal_journal.specs.Past.{has_ended}
+use Rattle.hub_engine.specs.Calls.{AppendedUnlessEnded, MayGive}
+use Rattle.hub_engine.proofs.Hubs.{workers_are}
 use Rattle.grape_hub.specs.declared.lane_record.LaneRecord.{LaneRecord}
 use Rattle.grape_hub.specs.LanedHub.{LanedHub, is_out_at}
-use Rattle.grape_hub.specs.Calls.{AppendedUnlessEnded, MayGive}
 use Rattle.grape_hub.specs.Notes.{OthersStay}
-use Rattle.grape_hub.proofs.Hubs.{workers_are}
 use Rattle.grape_hub.proofs.LanesKept.{appended_going, give_keeps, end_give_keeps, one_given_up, start_fits, started_again}
 use Rattle.grape_hub.proofs.hub.Hub.give.Goals as goal
 

@@ -1,6 +1,6 @@
 use Rattle.std.proofs.Common.{refl, sym, subst}
 use Rattle.grape_event.specs.declared.event.Event.TheVariants.{Kept}
-use Rattle.grape_hub.specs.Calls.{MayKeep}
+use Rattle.hub_engine.specs.Calls.{MayKeep}
 use Rattle.grape_hub.specs.LanedHub.{LanedHub}
 use Rattle.grape_hub.specs.Notes.{OthersStay}
 use Rattle.grape_hub.proofs.LanesKept.{duty_unless_keeps}

@@ -2,9 +2,9 @@ use Rattle.std.proofs.Common.{◌≡◌, ◌<◌, sym, ◌∙◌, ap, subst, fal
 use Rattle.grape_event.specs.JournalList.{JournalList}
 use Rattle.legal_journal.specs.Past.{has_ended}
 use Rattle.pie_core.specs.Locals.{LocalValues}
+use Rattle.hub_engine.specs.Calls.{Chooses}
 use Rattle.grape_hub.specs.declared.lane_record.LaneRecord.{LaneRecord}
 use Rattle.grape_hub.specs.LanedHub.{LanedHub, is_out_at}
-use Rattle.grape_hub.specs.Calls.{Chooses}
 use Rattle.grape_hub.specs.Notes.{OthersStay}
 use Rattle.grape_hub.specs.GivenUp.{HoldsGivenUp}
 use Rattle.grape_hub.proofs.LanesKept.{Keeps, ended_chosen, same_chosen, next_keeps}

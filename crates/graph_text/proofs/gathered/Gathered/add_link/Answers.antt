@@ -2,7 +2,7 @@ use Rattle.std.proofs.Common.{length, arith, ap, refl, sym, append-nil}
 use Rattle.std.specs.Prelude.{option_map}
 use Rattle.graph_text.specs.ReaderState.{gathered_state}
 use Rattle.graph_text.specs.Input.{bad}
-use Rattle.graph_text.specs.declared.statement.Statement.TheVariants.{Link}
+use Rattle.line_statements.specs.declared.statement.Statement.TheVariants.{Link}
 use Rattle.graph_text.proofs.Gatherings.{links_again, too_many, no_cause, many_links, few_links, holds-push, or_none}
 use Rattle.graph_text.proofs.gathered.Gathered.add_link.Goals as goal
 

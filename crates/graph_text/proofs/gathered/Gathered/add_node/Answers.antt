@@ -2,7 +2,7 @@ use Rattle.std.proofs.Common.{ap, refl, sym, ◌∙◌, append-nil}
 use Rattle.std.specs.Prelude.{option_map}
 use Rattle.graph_text.specs.ReaderState.{gathered_state}
 use Rattle.graph_text.specs.Input.{bad, has_node}
-use Rattle.graph_text.specs.declared.statement.Statement.TheVariants.{Node}
+use Rattle.line_statements.specs.declared.statement.Statement.TheVariants.{Node}
 use Rattle.graph_text.proofs.Gatherings.{node_again, twice, no_cause, few_still, holds-push, or_none}
 use Rattle.graph_text.proofs.gathered.Gathered.add_node.Goals as goal
 

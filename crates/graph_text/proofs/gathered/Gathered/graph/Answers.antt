@@ -1,7 +1,7 @@
 use Rattle.std.proofs.Common.{◌≡◌, sym, ap, subst, ◌∙◌}
 use Rattle.std.specs.Prelude.{filter_map}
 use Rattle.graph_core.specs.Graphs.{MakeGraph, graph_of}
-use Rattle.graph_text.specs.NumberSets.{DoRise}
+use Rattle.text_lines.specs.NumberSets.{DoRise}
 use Rattle.graph_text.specs.Input.{edge_in, vertices_of}
 use Rattle.graph_text.proofs.Jobs.{numbers_rise}
 use Rattle.graph_text.proofs.LabelLemmas.{labels_among, labelled_vertices}

@@ -1,9 +1,9 @@
 use Rattle.std.proofs.Common.{length, arith, ap, sym, ◌∙◌, append-nil}
 use Rattle.std.specs.Prelude.{option_map}
-use Rattle.graph_text.specs.NumberSets.{insert_number}
+use Rattle.text_lines.specs.NumberSets.{insert_number}
 use Rattle.graph_text.specs.ReaderState.{gathered_state}
 use Rattle.graph_text.specs.Input.{bad}
-use Rattle.graph_text.specs.declared.statement.Statement.TheVariants.{Joins}
+use Rattle.line_statements.specs.declared.statement.Statement.TheVariants.{Joins}
 use Rattle.graph_text.proofs.Gatherings.{joins_again, too_many, no_cause, many_edges, many_vertices, few_enough, numbers-added, holds-push, or_none}
 use Rattle.graph_text.proofs.gathered.Gathered.join.Goals as goal
 

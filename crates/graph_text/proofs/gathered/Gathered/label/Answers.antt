@@ -3,7 +3,7 @@ use Rattle.std.specs.Prelude.{option_map}
 use Rattle.std.specs.List.{list_any}
 use Rattle.graph_text.specs.ReaderState.{gathered_state}
 use Rattle.graph_text.specs.Input.{bad, repeats}
-use Rattle.graph_text.specs.declared.statement.Statement.TheVariants.{Vertex}
+use Rattle.line_statements.specs.declared.statement.Statement.TheVariants.{Vertex}
 use Rattle.graph_text.proofs.Numbers.{not_true, not_false}
 use Rattle.graph_text.proofs.Gatherings.{label_again, twice, too_many, no_cause, many_vertices, few_vertices, numbers-added, labelled-push, holds-push, or_none}
 use Rattle.graph_text.proofs.gathered.Gathered.label.Goals as goal

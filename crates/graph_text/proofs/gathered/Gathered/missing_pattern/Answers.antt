@@ -1,5 +1,5 @@
 use Rattle.std.proofs.Common.{None, Some, cond, ap, sym, ◌∙◌}
-use Rattle.graph_text.specs.declared.fault.Why.TheVariants.{NoPattern}
+use Rattle.line_statements.specs.declared.why.Why.TheVariants.{NoPattern}
 use Rattle.graph_text.specs.Input.{is_whole}
 use Rattle.graph_text.proofs.Gatherings.{held_pattern, same_pattern}
 use Rattle.graph_text.proofs.gathered.Gathered.missing_pattern.Goals as goal

@@ -1,6 +1,6 @@
 use Rattle.std.proofs.Common.{None, Some, cond, ap, sym, ◌∙◌}
-use Rattle.graph_text.specs.declared.fault.Why.TheVariants.{NoSource}
-use Rattle.graph_text.specs.NumberSets.{is_among}
+use Rattle.line_statements.specs.declared.why.Why.TheVariants.{NoSource}
+use Rattle.text_lines.specs.NumberSets.{is_among}
 use Rattle.graph_text.proofs.gathered.Gathered.missing_source.Goals as goal
 
 pub returns-then-contains : goal.returns-then-contains

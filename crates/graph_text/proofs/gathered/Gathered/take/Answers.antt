@@ -2,8 +2,8 @@ use Rattle.std.proofs.Common.{ap, sym, refl, ◌∙◌, append-nil}
 use Rattle.std.specs.Prelude.{option_map, is_some}
 use Rattle.graph_text.specs.ReaderState.{gathered_state}
 use Rattle.graph_text.specs.Input.{bad}
-use Rattle.graph_text.specs.declared.statement.Statement.{Statement}
-use Rattle.graph_text.specs.declared.statement.Statement.TheVariants.{Nothing, Asks, Fragments, Lanes, Snapshots, Cuts, Follows}
+use Rattle.line_statements.specs.declared.statement.Statement.{Statement}
+use Rattle.line_statements.specs.declared.statement.Statement.TheVariants.{Nothing, Asks, Fragments, Lanes, Snapshots, Cuts, Follows}
 use Rattle.graph_text.proofs.Gatherings.{nothing_again, asked, divided, was_laned, was_cut, had_policy, had_period, no_cause, few_still, holds-push, or_none, once-answers, once-kept}
 use Rattle.graph_text.proofs.gathered.Gathered.take.Goals as goal
 

@@ -1,11 +1,12 @@
 use Rattle.std.proofs.Common.{◌≡◌, [], ◌∷◌, ◌++◌, ◌+◌, None, length, sym, subst, ◌∙◌, ap, arith, Err}
 use Rattle.std.specs.Prelude.{option_map}
 use Rattle.std.proofs.lemmas.Result.{err_from_is_err_and}
-use Rattle.graph_text.specs.Lines.{whole_lines}
+use Rattle.text_lines.specs.Lines.{whole_lines}
+use Rattle.text_lines.proofs.Lengths.{is_zero, no_bytes}
 use Rattle.graph_text.specs.Input.{bad, cause_of, shown_of}
 use Rattle.graph_text.specs.ReaderState.{text_state, lines_state}
 use Rattle.graph_text.specs.Reader.{Answers, HasLines}
-use Rattle.graph_text.proofs.Reading.{no_bytes, is_zero, answer-exit, answer-line, text-taken, shown-line, text-line, shown-long}
+use Rattle.graph_text.proofs.Reading.{answer-exit, answer-line, text-taken, shown-line, text-line, shown-long}
 use Rattle.graph_text.proofs.open_text.OpenText.end_line.Goals as goal
 
 pub returns-then-is_empty-clause-answer : goal.returns-then-is_empty-clause-answer

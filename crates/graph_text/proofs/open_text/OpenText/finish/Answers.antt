@@ -1,10 +1,10 @@
 use Rattle.std.proofs.Common.{◌≡◌, ◌++◌, None, Err, subst, sym, ◌∙◌}
 use Rattle.std.proofs.lemmas.Result.{err_from_is_err_and}
-use Rattle.graph_text.specs.Lines.{lines_of, whole_lines, HasNoLineFeed}
+use Rattle.text_lines.specs.Lines.{lines_of, whole_lines, HasNoLineFeed}
+use Rattle.text_lines.proofs.Cuts.{last_has_no_line_feed}
 use Rattle.graph_text.specs.Input.{first_bad, cause_of, input_of}
 use Rattle.graph_text.specs.ReaderState.{lines_state, text_state}
 use Rattle.graph_text.specs.Reader.{Answers, HasLines}
-use Rattle.graph_text.proofs.Cuts.{last_has_no_line_feed}
 use Rattle.graph_text.proofs.Reading.{gives-exit, gives_bad, gives_lines}
 use Rattle.graph_text.proofs.open_text.OpenText.finish.Goals as goal
 

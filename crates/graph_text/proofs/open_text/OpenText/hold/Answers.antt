@@ -1,8 +1,9 @@
 use Rattle.std.proofs.Common.{◌++◌, length, refl, sym, subst, ◌∙◌, arith, Err}
+use Rattle.text_lines.proofs.Lengths.{some_bytes}
 use Rattle.graph_text.specs.Input.{shown_of}
 use Rattle.graph_text.specs.ReaderState.{text_state}
 use Rattle.graph_text.specs.Reader.{Answers}
-use Rattle.graph_text.proofs.Reading.{some_bytes, shown-too_long, text-held}
+use Rattle.graph_text.proofs.Reading.{shown-too_long, text-held}
 use Rattle.graph_text.proofs.open_text.OpenText.hold.Goals as goal
 
 pub returns-then-is_too_long-clause-answer : goal.returns-then-is_too_long-clause-answer

@@ -1,7 +1,8 @@
 use Rattle.std.proofs.Common.{length, sym, subst, ◌∙◌}
+use Rattle.text_lines.proofs.Lengths.{some_bytes}
 use Rattle.graph_text.specs.ReaderState.{lines_state}
 use Rattle.graph_text.specs.Reader.{Answers}
-use Rattle.graph_text.proofs.Reading.{first-last, some_bytes, lines-last}
+use Rattle.graph_text.proofs.Reading.{first-last, lines-last}
 use Rattle.graph_text.proofs.whole_lines.WholeLines.take_last.Goals as goal
 
 pub returns-clause-answer : goal.returns-clause-answer

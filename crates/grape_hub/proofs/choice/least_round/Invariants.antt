@@ -1,6 +1,0 @@
--- The least round so far.
-use Rattle.grape_hub.proofs.Searching.{IsLeastBefore}
-use Rattle.grape_hub.proofs.choice.least_round.Given as goal
-
-abbrev pub invariant-desks : goal.invariant-desks
-invariant-desks l = IsLeastBefore l.desks l.desk-index l.least

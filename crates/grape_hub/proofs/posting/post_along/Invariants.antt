@@ -1,7 +1,0 @@
-use Rattle.std.proofs.Common.{take}
-use Rattle.grape_hub.specs.Posting.{posts_along}
-use Rattle.grape_hub.proofs.Mailing.{AreMailed}
-use Rattle.grape_hub.proofs.posting.post_along.Given as goal
-
-abbrev pub invariant-row : goal.invariant-row
-invariant-row l = AreMailed l.sender l.fn.begun l.fn.desks l.fn.cut (λ k. posts_along k l.value (take l.route-index l.row)) l.begun l.desks l.cut

@@ -1,0 +1,9 @@
+pub mod HubValues
+pub mod States
+pub mod Choices
+pub mod Posting
+pub mod Desks
+pub mod Calls
+pub mod Openings
+pub mod Kinds
+pub mod Hearing

@@ -1,0 +1,10 @@
+pub mod FirstPlaces
+pub mod WordLemmas
+pub mod Cuts
+pub mod Growing
+pub mod Lengths
+pub mod Rising
+pub mod SortedKeys
+pub mod Searches
+pub mod Flags
+pub mod LabelLemmas
