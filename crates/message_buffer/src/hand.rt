@@ -1,6 +1,6 @@
 ghost use Rattle.std.specs.Prelude.{◌≡◌, ◌≢◌, ◌<◌, ◌↔◌, IfOk, IsTrue, All, length, replicate, slice_index, slice_set};
 ghost use Rattle.value_order.specs.Order.{meet_of};
-ghost use Rattle.message_buffer.specs.Hands.{new_hand, lowered_hand};
+ghost use Rattle.message_buffer.specs.Hands.{new_hand, lowered_hand, AreMirrorsOf};
 ghost use Rattle.message_buffer.specs.Buffers.{meets_of};
 
 use crate::meets::meet_into;
@@ -62,7 +62,11 @@ impl Hand {
         &self.values
     }
 
-    /// Whether no message came at all. Goes over the mirrors.
+    /// The mirrors for which a message came, each once, in no order.
+    pub fn mirrors(&self) -> &[u32]
+        ensures { AreMirrorsOf self.now.values result.now }
+
+    /// Whether no message came at all.
     pub fn is_empty(&self) -> bool
         ensures { IsTrue result ↔ All (λ value. value ≡ NOTHING) self.now.values }
     {

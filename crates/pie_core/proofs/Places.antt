@@ -8,7 +8,7 @@ use Rattle.std.proofs.lemmas.List.{get_or-set_same, get_or-set_other, get_or-rep
 use Rattle.std.proofs.lemmas.List.Folds.{list_any-append}
 use Rattle.std.proofs.lemmas.Map.Keys.{IsDistinct-head, IsDistinct-tail, IsDistinct-push}
 use Rattle.std.proofs.lemmas.Map.Steps.{length-le_from_distinct_below}
-use Rattle.pie_core.specs.PlaceLists.{waits, IsKept, IsPlaceList}
+use Rattle.pie_core.specs.PlaceSets.{waits, IsKept, IsPlaceList}
 
 pub kept_new : (n capacity : ℕ) → n ≤ capacity → IsKept (replicate n false) [] capacity
 unfolding IsDistinct

@@ -1,11 +1,12 @@
 -- What the calls on the values of a fragment leave.
-use Rattle.std.specs.Prelude.{◌≡◌, ℕ, ◌+◌, ◌*◌, if◌then◌else◌, List, [], ◌∷◌, ◌++◌, Option, Some, None, length, take, replicate, slice_set}
-use Rattle.pie_core.specs.PlaceLists.{waits}
+use Rattle.std.specs.Prelude.{◌≡◌, ◌≢◌, ℕ, ◌+◌, ◌*◌, ◌<◌, true, false, List, Option, Some, None, length, take, replicate, slice_index, slice_set}
+use Rattle.std.specs.List.{IsDistinct}
+use Rattle.pie_core.specs.PlaceSets.{waits}
 use Rattle.pie_core.specs.Locals.{LocalValues}
 
 abbrev pub new_local : ℕ → ℕ → ℕ → LocalValues
 new_local owned mirrors counters =
-    record { values = replicate (owned + mirrors) 0; before = replicate owned 0; counters = replicate (owned * counters) 0; waiting = [] }
+    record { values = replicate (owned + mirrors) 0; before = replicate owned 0; counters = replicate (owned * counters) 0; waiting = replicate owned false }
 
 -- what stands there is what was before
 abbrev pub settled : LocalValues → LocalValues
@@ -17,11 +18,15 @@ loaded local values = settled (record local { values = values })
 abbrev pub with_value : LocalValues → ℕ → ℕ → LocalValues
 with_value local place value = record local { values = slice_set local.values place value }
 
--- a place waits too, behind the others, where it didn't wait
+-- a place waits too
 abbrev pub with_waiting : LocalValues → ℕ → LocalValues
-with_waiting local place = record local { waiting = if waits local.waiting place then local.waiting else local.waiting ++ place ∷ [] }
+with_waiting local place = record local { waiting = slice_set local.waiting place true }
 
--- the place that was taken waited longest, and nothing else changed
-abbrev pub TakesOldest : LocalValues → Option ℕ → LocalValues → Type 0
-TakesOldest local None after = after ≡ local
-TakesOldest local (Some place) after = (local.waiting ≡ place ∷ after.waiting) × (after ≡ record local { waiting = after.waiting })
+-- the place that was taken had waited, and nothing else changed
+abbrev pub TakesOne : LocalValues → Option ℕ → LocalValues → Type 0
+TakesOne local None after = after ≡ local
+TakesOne local (Some place) after = (waits local.waiting place ≡ true) × (after ≡ record local { waiting = slice_set local.waiting place false })
+
+-- the owned places whose values aren't those of before, in rising order
+abbrev pub fallen_places : LocalValues → List ℕ
+fallen_places local = filter (λ place. slice_index local.before place ≠? slice_index local.values place) (range_with_len 0 (length local.before))

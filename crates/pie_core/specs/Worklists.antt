@@ -1,6 +1,6 @@
 -- What the calls on a list of places leave.
 use Rattle.std.specs.Prelude.{◌≡◌, ℕ, if◌then◌else◌, [], ◌∷◌, ◌++◌, Option, Some, None}
-use Rattle.pie_core.specs.PlaceLists.{PlaceList, waits}
+use Rattle.pie_core.specs.PlaceSets.{PlaceList, waits}
 
 abbrev pub new_list : ℕ → PlaceList
 new_list room = record { room = room; waiting = [] }

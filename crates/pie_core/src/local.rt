@@ -1,8 +1,8 @@
 ghost use Rattle.std.specs.Prelude.{◌≡◌, ℕ, ◌<◌, ◌≤◌, ◌↔◌, true, ◌+◌, ◌*◌, ◌++◌, ◌∷◌, [], length, replicate, IfOk, IfSome, IsNone};
 ghost use Rattle.std.specs.Borrow.{sem};
-ghost use Rattle.pie_core.specs.PlaceLists.{waits};
+ghost use Rattle.pie_core.specs.PlaceSets.{waits, how_many};
 ghost use Rattle.pie_core.specs.Locals.{IsLocal};
-ghost use Rattle.pie_core.specs.LocalCalls.{new_local, loaded, settled, with_value, with_waiting, TakesOldest};
+ghost use Rattle.pie_core.specs.LocalCalls.{new_local, loaded, settled, with_value, with_waiting, TakesOne, fallen_places};
 ghost use Rattle.pie_core.specs.LocalLends.{LendsCounters};
 
 use crate::worklist::Worklist;
@@ -25,7 +25,7 @@ pub struct Local {
 impl Model for Local {
     ghost use Rattle.std.specs.Prelude.{◌≡◌, ◌≤◌, vec_len};
     ghost use Rattle.pie_core.specs.Locals.{LocalValues};
-    ghost use Rattle.pie_core.specs.PlaceLists.{IsPlaceList};
+    ghost use Rattle.pie_core.specs.PlaceSets.{IsPlaceList};
 
     ghost Value = { LocalValues };
 
@@ -94,7 +94,7 @@ impl Local {
         self.values[place as usize] = value;
     }
 
-    /// Adds an owned place to the end of the worklist, where it isn't in it.
+    /// Puts an owned place on the worklist, where it isn't on it.
     pub fn enqueue(&mut self, place: u32)
         requires { place < length self.old.before }
         ensures added { self.new ≡ with_waiting self.old place }
@@ -114,15 +114,31 @@ impl Local {
         }
     }
 
-    /// Takes the oldest place from the worklist. `None` comes exactly where it is empty.
+    /// Takes a place from the worklist, and `None` exactly where it is empty. Which one comes isn't said: it is one with a
+    /// least value, as nearly as the shelves tell.
     pub fn dequeue(&mut self) -> Option<u32>
-        ensures none { IsNone result ↔ (self.old.waiting ≡ []) }
-        ensures oldest { TakesOldest self.old result self.new }
+        ensures none { IsNone result ↔ ((place : ℕ) → waits self.old.waiting place ≡ false) }
+        ensures one { TakesOne self.old result self.new }
+        ensures fewer { IfSome result (λ place. how_many self.new.waiting + 1 ≡ how_many self.old.waiting) }
         ensures owned { IfSome result (λ place. place < length self.old.before) }
         ensures local { IsLocal self.new }
     {
         self.worklist.pop()
     }
+
+    /// Says how far apart the values lie that wait at one time, at most. It changes no value and no answer, but which place
+    /// comes next: with it the places come off the worklist by rising values, nearly. It is heeded where no place waits.
+    pub fn space_shelves(&mut self, apart: u64)
+        ensures { self.new ≡ self.old }
+
+    /// Puts the list of the places whose values changed since the last `load` or `settle` in rising order, where few did.
+    pub fn gather_fallen(&mut self)
+        ensures { self.new ≡ self.old }
+
+    /// The owned places whose values aren't those of `before`, in rising order. `None` comes where many changed, or where
+    /// the list was not gathered since.
+    pub fn fallen(&self) -> Option<&[u32]>
+        ensures { IfSome result (λ places. places.now ≡ fallen_places self.now) }
 
     /// The program's counters, those of the first owned place first.
     pub fn counters(&self) -> &[u64]

@@ -1,5 +1,5 @@
 ghost use Rattle.std.specs.Prelude.{◌≡◌, ◌<◌, IfOk, IfSome, IsNone, ◌↔◌, []};
-ghost use Rattle.pie_core.specs.PlaceLists.{IsPlaceList};
+ghost use Rattle.pie_core.specs.PlaceSets.{IsPlaceList};
 ghost use Rattle.pie_core.specs.Worklists.{new_list, with_place, HasFirst};
 
 use grape_port::NoMemory;
@@ -18,7 +18,7 @@ pub struct Worklist {
 impl Model for Worklist {
     ghost use Rattle.std.specs.Prelude.{vec_len};
     ghost use Rattle.std.specs.VecDeque.{deque_capacity};
-    ghost use Rattle.pie_core.specs.PlaceLists.{PlaceList, IsKept};
+    ghost use Rattle.pie_core.specs.PlaceSets.{PlaceList, IsKept};
 
     ghost Value = { PlaceList };
 

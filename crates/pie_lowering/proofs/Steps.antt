@@ -6,7 +6,7 @@ use Rattle.std.proofs.lemmas.List.{get_or-set_same, get_or-set_other, length-set
 use Rattle.std.proofs.lemmas.List.Sums.{sum_by-set}
 use Rattle.graph_core.specs.declared.fragment.Reading.{Reading}
 use Rattle.graph_core.specs.Parts.{FragmentLists, place_count}
-use Rattle.pie_core.specs.PlaceLists.{waits}
+use Rattle.pie_core.specs.PlaceSets.{waits}
 use Rattle.pie_core.specs.Locals.{LocalValues, FitsPart}
 use Rattle.pie_core.specs.LocalCalls.{with_value, with_waiting, TakesOldest}
 use Rattle.pie_core.proofs.Places.{waits_on, waits_new, still_waits}

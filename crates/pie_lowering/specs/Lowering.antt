@@ -4,7 +4,7 @@ use Rattle.value_order.specs.declared.order.Order.TheVariants.{Least}
 use Rattle.graph_core.specs.declared.TheConstants.{FAR}
 use Rattle.graph_core.specs.declared.fragment.Reading.{Reading}
 use Rattle.graph_core.specs.Parts.{FragmentLists, place_count}
-use Rattle.pie_core.specs.PlaceLists.{waits}
+use Rattle.pie_core.specs.PlaceSets.{waits}
 use Rattle.pie_core.specs.Locals.{LocalValues}
 use Rattle.pie_core.specs.LocalCalls.{with_value, with_waiting}
 use Rattle.pie_core.specs.Solutions.{mirrors_lowered}

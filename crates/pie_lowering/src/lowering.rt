@@ -2,7 +2,7 @@ ghost use Rattle.std.specs.Prelude.{◌≡◌, ℕ, ◌<◌, ◌≤◌, true, le
 ghost use Rattle.value_order.specs.declared.order.Order.TheVariants.{Least};
 ghost use Rattle.graph_core.specs.Parts.{place_count};
 ghost use Rattle.pie_core.specs.Locals.{FitsPart};
-ghost use Rattle.pie_core.specs.PlaceLists.{waits};
+ghost use Rattle.pie_core.specs.PlaceSets.{waits};
 ghost use Rattle.pie_core.specs.LocalCalls.{with_value};
 ghost use Rattle.pie_lowering.specs.Lowering.{AreAtMostFar, HasFallen, HoldsReaders, HoldsAllReaders, IsSettled, WaitWhereFell, lowered_to, with_mirrors};
 

@@ -11,7 +11,7 @@ use Rattle.graph_core.specs.declared.fragment.Reading.{Reading}
 use Rattle.graph_core.specs.Parts.{FragmentLists}
 use Rattle.graph_core.specs.Queries.{has_bit}
 use Rattle.graph_core.proofs.Lists.{any_from, any_gives}
-use Rattle.pie_core.specs.PlaceLists.{waits}
+use Rattle.pie_core.specs.PlaceSets.{waits}
 use Rattle.pie_core.specs.Locals.{LocalValues, FitsPart}
 use Rattle.pie_core.specs.LocalCalls.{with_value, TakesOldest}
 use Rattle.pie_core.proofs.Places.{still_waits}

@@ -6,7 +6,7 @@ use Rattle.value_order.specs.Order.{Below}
 use Rattle.graph_core.specs.declared.fragment.Reading.{Reading}
 use Rattle.graph_core.specs.Parts.{FragmentLists}
 use Rattle.graph_core.specs.Queries.{has_bit}
-use Rattle.pie_core.specs.PlaceLists.{waits}
+use Rattle.pie_core.specs.PlaceSets.{waits}
 use Rattle.pie_core.specs.Locals.{LocalValues}
 use Rattle.pie_sim.specs.SimJobs.{HasBit}
 

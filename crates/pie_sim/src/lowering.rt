@@ -5,7 +5,7 @@ ghost use Rattle.graph_core.specs.Parts.{place_count};
 ghost use Rattle.graph_core.specs.Queries.{has_bit};
 ghost use Rattle.pie_core.specs.Solutions.{mirrors_lowered};
 ghost use Rattle.pie_core.specs.Locals.{FitsPart};
-ghost use Rattle.pie_core.specs.PlaceLists.{waits};
+ghost use Rattle.pie_core.specs.PlaceSets.{waits};
 ghost use Rattle.pie_sim.specs.Falling.{HasLowered, IsSettled, ReadersAreListed, ReadersWait, is_read};
 
 use graph_core::Fragment;

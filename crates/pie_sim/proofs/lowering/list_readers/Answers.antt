@@ -2,7 +2,7 @@ use Rattle.std.proofs.Common.{◌≡◌, true, sym, ◌∙◌, ap, subst, arith,
 use Rattle.std.proofs.lemmas.Bool.{cases_eq}
 use Rattle.std.proofs.lemmas.List.{get_or_default}
 use Rattle.graph_core.specs.declared.fragment.Reading.{Reading}
-use Rattle.pie_core.specs.PlaceLists.{waits}
+use Rattle.pie_core.specs.PlaceSets.{waits}
 use Rattle.pie_core.specs.Locals.{LocalValues}
 use Rattle.pie_core.proofs.Places.{waits_on, waits_new}
 use Rattle.pie_sim.proofs.lowering.list_readers.Goals as goal

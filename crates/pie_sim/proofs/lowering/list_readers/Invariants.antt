@@ -1,6 +1,6 @@
 use Rattle.std.proofs.Common.{◌≡◌, ℕ, ◌<◌, ◌≤◌, true, length, slice_index_or}
 use Rattle.graph_core.specs.declared.fragment.Reading.{Reading}
-use Rattle.pie_core.specs.PlaceLists.{waits}
+use Rattle.pie_core.specs.PlaceSets.{waits}
 use Rattle.pie_sim.proofs.lowering.list_readers.Given as goal
 
 -- the readers so far wait

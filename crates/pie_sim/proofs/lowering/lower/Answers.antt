@@ -1,5 +1,5 @@
 use Rattle.std.proofs.Common.{◌≡◌, ◌<◌, true, sym, ◌∙◌, ap, subst, arith, length, slice_index}
-use Rattle.pie_core.specs.PlaceLists.{waits}
+use Rattle.pie_core.specs.PlaceSets.{waits}
 use Rattle.pie_core.specs.Locals.{LocalValues}
 use Rattle.pie_sim.proofs.Steps.{lowered-same, lowered-other}
 use Rattle.pie_sim.proofs.lowering.lower.Goals as goal

@@ -1,5 +1,5 @@
 use Rattle.std.proofs.Common.{◌≡◌, ℕ, ◌<◌, true}
-use Rattle.pie_core.specs.PlaceLists.{waits}
+use Rattle.pie_core.specs.PlaceSets.{waits}
 use Rattle.pie_core.proofs.local.Local.enqueue_below.Given as goal
 
 -- the places so far wait

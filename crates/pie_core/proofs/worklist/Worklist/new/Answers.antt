@@ -1,6 +1,6 @@
 use Rattle.std.proofs.Common.{◌≡◌, arith, rules, vec_len}
 use Rattle.std.specs.VecDeque.{deque_capacity}
-use Rattle.pie_core.specs.PlaceLists.{IsKept}
+use Rattle.pie_core.specs.PlaceSets.{IsKept}
 use Rattle.pie_core.proofs.Places.{made_new, kept_list}
 use Rattle.pie_core.proofs.worklist.Worklist.new.Goals as goal
 

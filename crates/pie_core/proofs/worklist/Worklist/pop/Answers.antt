@@ -2,7 +2,7 @@ use Rattle.std.proofs.Common.{◌<◌, false, length, arith, vec_len, ap, ◌≡
 use Rattle.std.proofs.Math.ListN.{set}
 use Rattle.std.specs.VecDeque.{deque_capacity}
 use Rattle.std.proofs.lemmas.List.{length-set}
-use Rattle.pie_core.specs.PlaceLists.{IsKept, PlaceList}
+use Rattle.pie_core.specs.PlaceSets.{IsKept, PlaceList}
 use Rattle.pie_core.proofs.Places.{made_pop, popped_inside, kept_list}
 use Rattle.pie_core.proofs.worklist.Worklist.pop.Goals as goal
 

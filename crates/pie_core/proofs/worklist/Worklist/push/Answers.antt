@@ -2,7 +2,7 @@ use Rattle.std.proofs.Common.{◌≡◌, ◌<◌, length, get_or, true, false, a
 use Rattle.std.proofs.Math.ListN.{set}
 use Rattle.std.specs.VecDeque.{deque_capacity}
 use Rattle.std.proofs.lemmas.List.{length-set}
-use Rattle.pie_core.specs.PlaceLists.{PlaceList, IsKept, IsPlaceList}
+use Rattle.pie_core.specs.PlaceSets.{PlaceList, IsKept, IsPlaceList}
 use Rattle.pie_core.proofs.Places.{made_push, room_left, kept_list}
 use Rattle.pie_core.proofs.worklist.Worklist.push.Goals as goal
 
