@@ -16,6 +16,7 @@ mod pattern;
 mod query;
 mod row_table;
 mod settings;
+mod sorting;
 mod worked;
 
 pub use edge::Edge;
