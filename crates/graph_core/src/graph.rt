@@ -7,19 +7,36 @@ use crate::numbering::{place_of, placed_edges};
 use grape_port::NoMemory;
 use std::alloc::Global;
 use std::marker::Model;
+use std::sync::Arc;
 
 /// A directed graph within the engine's limits: at most 1,000,000 vertices and 4,000,000 edges, and
 /// numbers, labels and weights below 2^32.
 ///
 /// Vertices stand in rising order of their numbers, and the index of a vertex is its place there, from 0.
 /// A graph takes 8 bytes a vertex and 12 bytes an edge.
+/// Copies share both lists.
 #[derive(Drop)]
 pub struct Graph {
+    lists: Arc<Lists, Global>,
+}
+
+impl Model for Graph {
+    ghost use Rattle.std.specs.Arc.{arc_value};
+    ghost use Rattle.graph_core.specs.Digraph.{Digraph};
+
+    ghost Value = { Digraph };
+
+    ghost view = { λ g. arc_value g.lists };
+}
+
+/// The vertices and the edges of a graph.
+#[derive(Drop)]
+struct Lists {
     vertices: Vec<(u32, u32)>,
     edges: Vec<Edge>,
 }
 
-impl Model for Graph {
+impl Model for Lists {
     ghost use Rattle.graph_core.specs.Digraph.{Digraph, IsGraph};
 
     ghost Value = { Digraph };
@@ -27,6 +44,28 @@ impl Model for Graph {
     ghost view = { λ g. record { vertices = g.vertices.items; edges = g.edges.items } };
 
     ghost invariant = { λ g. IsGraph (record { vertices = g.vertices.items; edges = g.edges.items }) };
+}
+
+impl Lists {
+    /// The lists of a graph.
+    fn new(alloc: Global, vertices: &[(u32, u32)], edges: &[Edge]) -> Result<Lists, NoMemory>
+        requires { MakeGraph vertices.now edges.now }
+        ensures exact { IfOk result (λ lists. lists ≡ graph_of vertices.now edges.now) }
+        ensures made { IfOk result IsGraph }
+    {
+        let edges = placed_edges(alloc, vertices, edges)?;
+        let vertices = copy_of(alloc, vertices)?;
+        Ok(Lists { vertices, edges })
+    }
+
+    /// The index of the vertex with this number.
+    fn index_of(&self, id: u32) -> Option<u32>
+        ensures exact { result ≡ index_of self.now id }
+        ensures found { IfSome result (λ index. (index < count_of self.now) × (number_at self.now index ≡ id)) }
+        ensures absent { IfNone result ((v : ℕ) → v < count_of self.now → number_at self.now v ≢ id) }
+    {
+        place_of(&self.vertices, id)
+    }
 }
 
 impl Graph {
@@ -39,9 +78,9 @@ impl Graph {
         ensures exact { IfOk result (λ graph. graph ≡ graph_of vertices.now edges.now) }
         ensures made { IfOk result IsGraph }
     {
-        let edges = placed_edges(alloc, vertices, edges)?;
-        let vertices = copy_of(alloc, vertices)?;
-        Ok(Graph { vertices, edges })
+        let lists = Lists::new(alloc, vertices, edges)?;
+        let lists = Arc::new(alloc, lists).map_err(|_| NoMemory)?;
+        Ok(Graph { lists })
     }
 
     /// How many vertices the graph has, at most 1,000,000.
@@ -49,7 +88,7 @@ impl Graph {
         ensures count { result ≡ count_of self.now }
         ensures graph { IsGraph self.now }
     {
-        self.vertices.len() as u32
+        self.lists.vertices.len() as u32
     }
 
     /// The number of the vertex with this index.
@@ -57,7 +96,7 @@ impl Graph {
         requires { index < count_of self.now }
         ensures { result ≡ number_at self.now index }
     {
-        self.vertices[index as usize].0
+        self.lists.vertices[index as usize].0
     }
 
     /// The label of the vertex with this index.
@@ -65,7 +104,7 @@ impl Graph {
         requires { index < count_of self.now }
         ensures { result ≡ label_at self.now index }
     {
-        self.vertices[index as usize].1
+        self.lists.vertices[index as usize].1
     }
 
     /// The index of the vertex with this number, and None exactly where no vertex has it.
@@ -74,7 +113,7 @@ impl Graph {
         ensures found { IfSome result (λ index. (index < count_of self.now) × (number_at self.now index ≡ id)) }
         ensures absent { IfNone result ((v : ℕ) → v < count_of self.now → number_at self.now v ≢ id) }
     {
-        place_of(&self.vertices, id)
+        self.lists.index_of(id)
     }
 
     /// The edges, with indexes for their ends: each as often as it was given, sorted by from, to and weight.
@@ -82,15 +121,14 @@ impl Graph {
         ensures edges { result.now ≡ self.now.edges }
         ensures graph { IsGraph self.now }
     {
-        &self.edges
+        &self.lists.edges
     }
 
-    /// An equal graph.
-    pub(crate) fn copy(&self, alloc: Global) -> Result<Graph, NoMemory>
+    /// An equal graph, which shares the lists. An error comes where it can't be counted any more who shares them.
+    pub(crate) fn copy(&self) -> Result<Graph, NoMemory>
         ensures { IfOk result (λ copy. copy ≡ self.now) }
     {
-        let vertices = copy_of(alloc, &self.vertices)?;
-        let edges = copy_of(alloc, &self.edges)?;
-        Ok(Graph { vertices, edges })
+        let lists = Arc::try_clone(&self.lists)?;
+        Ok(Graph { lists })
     }
 }

@@ -42,7 +42,7 @@ impl Job {
     pub fn copy(&self, alloc: Global) -> Result<Job, NoMemory>
         ensures { IfOk result (λ copy. copy ≡ self.now) }
     {
-        let graph = self.graph.copy(alloc)?;
+        let graph = self.graph.copy()?;
         let query = self.query.copy(alloc)?;
         let settings = self.settings;
         Ok(Job {

@@ -1,7 +1,7 @@
 use Rattle.std.proofs.Common.{◌≡◌, ap, ◌∙◌}
 use Rattle.graph_core.specs.Digraph.{index_in}
 use Rattle.graph_core.proofs.VertexNumbers.{found_says, absent_says}
-use Rattle.graph_core.proofs.graph.Graph.index_of.Goals as goal
+use Rattle.graph_core.proofs.graph.Lists.index_of.Goals as goal
 
 pub returns-clause-found : goal.returns-clause-found
 returns-clause-found c =

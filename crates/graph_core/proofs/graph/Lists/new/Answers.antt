@@ -1,7 +1,7 @@
 use Rattle.std.proofs.Common.{◌≡◌, subst}
 use Rattle.graph_core.specs.Digraph.{Digraph, IsGraph, graph_of}
 use Rattle.graph_core.proofs.GraphLemmas.{graph_of_is_graph}
-use Rattle.graph_core.proofs.graph.Graph.build.Goals as goal
+use Rattle.graph_core.proofs.graph.Lists.new.Goals as goal
 
 pub invariant_of-result : goal.invariant_of-result
 invariant_of-result c =
