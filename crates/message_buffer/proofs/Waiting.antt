@@ -1,16 +1,14 @@
 -- What both classes have together.
 use Rattle.std.proofs.Common.{◌≡◌, ℕ, suc, ◌+◌, ◌<◌, ◌≤◌, ◌⊎◌, inl, inr, Bool, true, false, not, ◌&&◌, ◌||◌, if◌then◌else◌, cond, ◌==◌, List, [], ◌∷◌, length, slice_index, count_by, ap, sym, ◌∙◌, refl, arith}
 use Rattle.std.specs.List.{range_with_len}
-use Rattle.std.proofs.lemmas.Nat.{and_le_l, and_le_r}
 use Rattle.std.proofs.lemmas.List.Sums.{sum_by-cons}
 use Rattle.std.proofs.lemmas.Bool.{and_right, eq-eqb, ne_eqb}
 use Rattle.value_order.specs.declared.order.Order.{Order}
-use Rattle.value_order.specs.declared.order.Order.TheVariants.{Least, Mask}
 use Rattle.value_order.specs.declared.TheConstants.{NOTHING}
 use Rattle.value_order.specs.Order.{meet_of, meet_all}
 use Rattle.message_buffer.specs.Buffers.{count_values}
 use Rattle.message_buffer.specs.Posted.{Step, Begins, Posts, Folds, same_class, has_fold, values_posted, batches_begun, all_values_posted, all_batches_begun, is_posted_to, PostsAreValues}
-use Rattle.message_buffer.proofs.Meeting.{meet-assoc, meet-turn}
+use Rattle.message_buffer.proofs.Meeting.{meet-assoc, meet-turn, meet-le_l, meet-le_r}
 
 -- ---- the meet of both classes
 
@@ -42,14 +40,6 @@ both_counted (Posts tagged k v ∷ later) = both_counted later
 both_counted (Folds ∷ later) = both_counted later
 
 -- ---- where a value waits
-
-meet-le_l : (o : Order) (a b : ℕ) → meet_of o a b ≤ a
-meet-le_l Least a b = omega arith
-meet-le_l Mask a b = and_le_l a b
-
-meet-le_r : (o : Order) (a b : ℕ) → meet_of o a b ≤ b
-meet-le_r Least a b = omega arith
-meet-le_r Mask a b = and_le_r a b
 
 meet_all-le : (o : Order) (a : ℕ) (xs : List ℕ) → meet_all o a xs ≤ a
 meet_all-le o a [] = omega arith

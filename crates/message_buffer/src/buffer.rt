@@ -3,7 +3,7 @@ ghost use Rattle.message_buffer.specs.HandValues.{HandValues};
 ghost use Rattle.message_buffer.specs.Buffers.{new_buffer, with_batch, with_post, batches_in, all_waiting, waiting_in, emptied, folded};
 
 use crate::Hand;
-use crate::meets::meet_into;
+use crate::listed::{enlist, merge, value_of};
 use grape_port::NoMemory;
 use std::alloc::Global;
 use std::marker::Model;
@@ -11,7 +11,8 @@ use value_order::{NOTHING, Order, meet};
 
 /// The mail that waits for a worker. What other workers send comes in batches, and each batch is tagged or not. For each
 /// class of batches the buffer keeps how many there are, and for each mirror the meet of the values that were posted, so
-/// that posting takes no memory however much mail waits.
+/// that posting takes no memory however much mail waits. The mirrors with a value are in a list, so that a take costs what
+/// was posted and not what the fragment has; the tagged class costs nothing until something is posted in it.
 ///
 /// Contracts see the order, the meets of both classes, `NOTHING` where none came, and the counts of their batches.
 #[derive(Drop)]
@@ -19,13 +20,17 @@ pub struct Buffer {
     order: Order,
     plain: Vec<u64>,
     tagged: Vec<u64>,
+    mirrors: Vec<u32>,
+    has_tagged: bool,
     plain_batches: u64,
     tagged_batches: u64,
 }
 
 impl Model for Buffer {
-    ghost use Rattle.std.specs.Prelude.{◌≡◌, ◌+◌, ◌^◌, ◌<◌, vec_len};
+    ghost use Rattle.std.specs.Prelude.{◌+◌, ◌^◌, ◌<◌};
+    ghost use Rattle.std.specs.Vec.{vec_capacity};
     ghost use Rattle.message_buffer.specs.BufferValues.{BufferValues};
+    ghost use Rattle.message_buffer.specs.Listed.{IsKept};
 
     ghost Value = { BufferValues };
 
@@ -37,11 +42,11 @@ impl Model for Buffer {
       tagged_batches = b.tagged_batches;
     } };
 
-    ghost invariant = { λ b. (vec_len b.tagged ≡ vec_len b.plain) × (vec_len b.plain < 2 ^ 32) × (b.plain_batches + b.tagged_batches < 2 ^ 64) };
+    ghost invariant = { λ b. IsKept b.order b.plain.items b.tagged.items b.mirrors.items (vec_capacity b.mirrors) b.has_tagged × (b.plain_batches + b.tagged_batches < 2 ^ 64) };
 }
 
 impl Buffer {
-    /// An empty buffer for this many mirrors, whose memory is taken at once.
+    /// An empty buffer for this many mirrors, whose memory is taken at once: 20 bytes a mirror.
     pub fn new(alloc: Global, order: Order, mirrors: u32) -> Result<Buffer, NoMemory>
         ensures { IfOk result (λ buffer. buffer ≡ new_buffer order mirrors) }
     {
@@ -49,6 +54,8 @@ impl Buffer {
             order,
             plain: vec![in alloc; NOTHING; mirrors as usize]?,
             tagged: vec![in alloc; NOTHING; mirrors as usize]?,
+            mirrors: Vec::with_capacity(alloc, mirrors as usize)?,
+            has_tagged: false,
             plain_batches: 0,
             tagged_batches: 0,
         })
@@ -74,7 +81,16 @@ impl Buffer {
         ensures { self.new ≡ with_post tagged mirror value self.old }
     {
         let place = mirror as usize;
+        let before = value_of(
+            self.order,
+            &self.plain,
+            &self.tagged,
+            self.has_tagged,
+            place,
+        );
+        enlist(&mut self.mirrors, mirror, before);
         if tagged {
+            self.has_tagged = true;
             self.tagged[place] = meet(self.order, self.tagged[place], value);
         } else {
             self.plain[place] = meet(self.order, self.plain[place], value);
@@ -82,26 +98,36 @@ impl Buffer {
     }
 
     /// Moves all mail of both classes into a hand of the same order and as many mirrors, whatever it held before. Goes
-    /// once over the mirrors, and takes no memory.
+    /// over the mirrors that have a value in one of the two alone, and takes no memory.
     pub fn take(&mut self, hand: &mut Hand)
         requires order { hand.old.order ≡ self.old.order }
         requires mirrors { length hand.old.values ≡ length self.old.plain }
         ensures hand { hand.new ≡ record { order = self.old.order; values = all_waiting self.old } }
         ensures empty { self.new ≡ emptied self.old }
     {
-        hand.fill(&self.plain, &self.tagged);
-        clear(&mut self.plain);
-        clear(&mut self.tagged);
+        hand.trade(
+            &mut self.plain,
+            &mut self.tagged,
+            &mut self.mirrors,
+            self.has_tagged,
+        );
+        self.has_tagged = false;
         self.plain_batches = 0;
         self.tagged_batches = 0;
     }
 
-    /// The tagged batches become untagged. Goes once over the mirrors.
+    /// The tagged batches become untagged. Goes over the mirrors with a value, and over none where nothing is tagged.
     pub fn fold(&mut self)
         ensures { self.new ≡ folded self.old }
     {
-        meet_into(self.order, &mut self.plain, &self.tagged);
-        clear(&mut self.tagged);
+        merge(
+            self.order,
+            &mut self.plain,
+            &mut self.tagged,
+            &self.mirrors,
+            self.has_tagged,
+        );
+        self.has_tagged = false;
         self.plain_batches += self.tagged_batches;
         self.tagged_batches = 0;
     }
@@ -113,17 +139,11 @@ impl Buffer {
         &self.plain
     }
 
-    /// For how many mirrors a value waits, in either class. Goes over the mirrors.
+    /// For how many mirrors a value waits, in either class.
     pub fn waiting(&self) -> u32
         ensures { result ≡ waiting_in self.now }
     {
-        let mut count = 0;
-        for (plain, tagged) in self.plain.iter().zip(self.tagged.iter()) {
-            if *plain != NOTHING || *tagged != NOTHING {
-                count += 1;
-            }
-        }
-        count
+        self.mirrors.len() as u32
     }
 
     /// How many batches wait, in both classes.
@@ -139,11 +159,4 @@ impl Buffer {
     {
         self.tagged_batches
     }
-}
-
-/// No value for any mirror.
-fn clear(values: &mut [u64])
-    ensures { values.new ≡ replicate (length values.old) NOTHING }
-{
-    values.fill(NOTHING);
 }

@@ -1,37 +1,50 @@
-ghost use Rattle.std.specs.Prelude.{◌≡◌, ◌≢◌, ◌<◌, ◌↔◌, IfOk, IsTrue, All, length, replicate, slice_index, slice_set};
+ghost use Rattle.std.specs.Prelude.{◌≡◌, ◌≢◌, ◌<◌, ◌≤◌, ◌↔◌, IfOk, IsTrue, All, [], length, replicate, slice_index, slice_set, vec_len};
+ghost use Rattle.std.specs.Vec.{vec_capacity};
+ghost use Rattle.value_order.specs.declared.TheConstants.{NOTHING};
 ghost use Rattle.value_order.specs.Order.{meet_of};
 ghost use Rattle.message_buffer.specs.Hands.{new_hand, lowered_hand, AreMirrorsOf};
 ghost use Rattle.message_buffer.specs.Buffers.{meets_of};
+ghost use Rattle.message_buffer.specs.Listed.{IsListed, IsCalm};
 
-use crate::meets::meet_into;
+use crate::listed::{clear, enlist, merge};
 use grape_port::NoMemory;
 use std::alloc::Global;
 use std::marker::Model;
+use std::mem::swap;
 use value_order::{NOTHING, Order, meet};
 
 /// What a worker takes into one evaluation: for each mirror of its fragment the meet of the values that came, or
-/// `NOTHING` where none came. Contracts see its order and that list of values.
+/// `NOTHING` where none came. The mirrors with a value are in a list, so that an evaluation goes through these alone.
+/// Contracts see its order and the list of values.
 #[derive(Drop)]
 pub struct Hand {
     order: Order,
     values: Vec<u64>,
+    mirrors: Vec<u32>,
 }
 
 impl Model for Hand {
+    ghost use Rattle.std.specs.Vec.{vec_capacity};
     ghost use Rattle.message_buffer.specs.HandValues.{HandValues};
+    ghost use Rattle.message_buffer.specs.Listed.{IsListed};
 
     ghost Value = { HandValues };
 
     ghost view = { λ h. record { order = h.order; values = h.values.items } };
+
+    ghost invariant = { λ h. IsListed h.values.items h.mirrors.items (vec_capacity h.mirrors) };
 }
 
 impl Hand {
-    /// An empty hand for this many mirrors, whose memory is taken at once.
+    /// An empty hand for this many mirrors, whose memory is taken at once: 12 bytes a mirror.
     pub fn new(alloc: Global, order: Order, mirrors: u32) -> Result<Hand, NoMemory>
         ensures { IfOk result (λ hand. hand ≡ new_hand order mirrors) }
     {
-        let values = vec![in alloc; NOTHING; mirrors as usize]?;
-        Ok(Hand { order, values })
+        Ok(Hand {
+            order,
+            values: vec![in alloc; NOTHING; mirrors as usize]?,
+            mirrors: Vec::with_capacity(alloc, mirrors as usize)?,
+        })
     }
 
     /// The value of a mirror becomes the meet of it and this one. The mirror is one of the hand's, and the value isn't
@@ -42,17 +55,40 @@ impl Hand {
         ensures { self.new ≡ lowered_hand self.old mirror value }
     {
         let place = mirror as usize;
-        self.values[place] = meet(self.order, self.values[place], value);
+        let before = self.values[place];
+        enlist(&mut self.mirrors, mirror, before);
+        self.values[place] = meet(self.order, before, value);
     }
 
-    /// The value of each mirror becomes the meet of two others. The lists have a value for each mirror.
-    pub(crate) fn fill(&mut self, plain: &[u64], tagged: &[u64])
-        requires plain { length plain.now ≡ length self.old.values }
-        requires tagged { length tagged.now ≡ length self.old.values }
-        ensures { self.new ≡ record { order = self.old.order; values = meets_of self.old.order plain.now tagged.now } }
+    /// Trades its values and its list, emptied, for those of a buffer's untagged class, and takes the tagged values in.
+    pub(crate) fn trade(
+        &mut self,
+        plain: &mut Vec<u64>,
+        tagged: &mut [u64],
+        mirrors: &mut Vec<u32>,
+        has_tagged: bool,
+    )
+        requires plain { length plain.old.items ≡ length self.old.values }
+        requires tagged { length tagged.old ≡ length self.old.values }
+        requires listed { IsListed (meets_of self.old.order plain.old.items tagged.old) mirrors.old.items (vec_capacity mirrors.old) }
+        requires calm { IsCalm has_tagged tagged.old }
+        ensures hand { self.new ≡ record { order = self.old.order; values = meets_of self.old.order plain.old.items tagged.old } }
+        ensures plain { plain.new.items ≡ replicate (length self.old.values) NOTHING }
+        ensures tagged { tagged.new ≡ replicate (length self.old.values) NOTHING }
+        ensures mirrors { mirrors.new.items ≡ [] }
+        ensures room { length self.old.values ≤ vec_capacity mirrors.new }
     {
-        self.values.copy_from_slice(plain);
-        meet_into(self.order, &mut self.values, tagged);
+        clear(&mut self.values, &self.mirrors);
+        self.mirrors.clear();
+        swap(&mut self.values, plain);
+        swap(&mut self.mirrors, mirrors);
+        merge(
+            self.order,
+            &mut self.values,
+            tagged,
+            &self.mirrors,
+            has_tagged,
+        );
     }
 
     /// The value of each mirror, `NOTHING` where no message came.
@@ -65,11 +101,14 @@ impl Hand {
     /// The mirrors for which a message came, each once, in no order.
     pub fn mirrors(&self) -> &[u32]
         ensures { AreMirrorsOf self.now.values result.now }
+    {
+        &self.mirrors
+    }
 
     /// Whether no message came at all.
     pub fn is_empty(&self) -> bool
         ensures { IsTrue result ↔ All (λ value. value ≡ NOTHING) self.now.values }
     {
-        self.values.iter().all(|value| *value == NOTHING)
+        self.mirrors.is_empty()
     }
 }

@@ -8,7 +8,7 @@
 mod buffer;
 mod hand;
 mod laws;
-mod meets;
+mod listed;
 mod worked;
 
 pub use buffer::Buffer;

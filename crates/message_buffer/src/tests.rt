@@ -23,6 +23,7 @@ fn takes_the_meet(rt: HostRuntime) -> Result<(), Fail> {
         hand.lower(1, second);
         assert!(rt; !hand.is_empty());
         assert_eq!(rt; hand.values(), [NOTHING, want].as_slice());
+        assert_eq!(rt; hand.mirrors(), [1].as_slice());
     }
     Ok(())
 }
@@ -55,11 +56,46 @@ fn takes_what_was_posted(rt: HostRuntime) -> Result<(), Fail> {
 
         buffer.take(&mut hand);
         assert_eq!(rt; hand.values(), all.as_slice());
+        assert_eq!(rt; hand.mirrors(), [0, 1, 2].as_slice());
         check_counts(&rt, &buffer, (0, 0, 0));
         assert_eq!(rt; buffer.plain(), [NOTHING; 4].as_slice());
 
         buffer.take(&mut hand);
         assert!(rt; hand.is_empty());
+        assert!(rt; hand.mirrors().is_empty());
+    }
+    Ok(())
+}
+
+#[test]
+fn takes_again_with_the_same_hand(rt: HostRuntime) -> Result<(), Fail> {
+    let table = [
+        (Order::Least, [6, 3], [NOTHING, 3, 6]),
+        (Order::Mask, [6, 3], [NOTHING, 2, 6]),
+    ];
+    for (order, [first, second], want) in table {
+        let mut buffer = Buffer::new(rt.alloc(), order, 3)?;
+        let mut hand = Hand::new(rt.alloc(), order, 3)?;
+        buffer.begin_batch(false);
+        buffer.post(false, 2, first);
+        buffer.post(false, 0, second);
+        buffer.take(&mut hand);
+        assert_eq!(rt; hand.values(), [second, NOTHING, first].as_slice());
+        assert_eq!(rt; hand.mirrors(), [2, 0].as_slice());
+
+        // tagged first, then untagged, and what was lowered in the hand itself is gone
+        hand.lower(1, 0);
+        buffer.begin_batch(true);
+        buffer.post(true, 1, second);
+        buffer.begin_batch(false);
+        buffer.post(false, 1, first);
+        buffer.post(false, 2, first);
+        check_counts(&rt, &buffer, (2, 1, 2));
+        buffer.take(&mut hand);
+        assert_eq!(rt; hand.values(), want.as_slice());
+        assert_eq!(rt; hand.mirrors(), [1, 2].as_slice());
+        assert_eq!(rt; buffer.plain(), [NOTHING; 3].as_slice());
+        check_counts(&rt, &buffer, (0, 0, 0));
     }
     Ok(())
 }
@@ -84,6 +120,7 @@ fn folds_the_tagged_batches(rt: HostRuntime) -> Result<(), Fail> {
         let mut hand = Hand::new(rt.alloc(), order, 3)?;
         buffer.take(&mut hand);
         assert_eq!(rt; hand.values(), [met, NOTHING, tagged].as_slice());
+        assert_eq!(rt; hand.mirrors(), [0, 2].as_slice());
     }
     Ok(())
 }
