@@ -19,7 +19,6 @@ pub use laws::{
 pub use local::Local;
 pub use pie::Pie;
 pub use starts::starts_of;
-pub use worklist::Worklist;
 
 #[cfg(test)]
 mod tests;

@@ -1,4 +1,4 @@
-ghost use Rattle.std.specs.Prelude.{◌≡◌, ℕ, ◌<◌, ◌≤◌, ◌↔◌, true, ◌+◌, ◌*◌, ◌++◌, ◌∷◌, [], length, replicate, IfOk, IfSome, IsNone};
+ghost use Rattle.std.specs.Prelude.{◌≡◌, ℕ, ◌<◌, ◌≤◌, ◌↔◌, true, false, ◌+◌, length, replicate, IfOk, IfSome, IsNone};
 ghost use Rattle.std.specs.Borrow.{sem};
 ghost use Rattle.pie_core.specs.PlaceSets.{waits, how_many};
 ghost use Rattle.pie_core.specs.Locals.{IsLocal};
@@ -23,15 +23,14 @@ pub struct Local {
 }
 
 impl Model for Local {
-    ghost use Rattle.std.specs.Prelude.{◌≡◌, ◌≤◌, vec_len};
+    ghost use Rattle.std.specs.Prelude.{◌≡◌, ◌≤◌, length, vec_len};
     ghost use Rattle.pie_core.specs.Locals.{LocalValues};
-    ghost use Rattle.pie_core.specs.PlaceSets.{IsPlaceList};
 
     ghost Value = { LocalValues };
 
-    ghost view = { λ l. record { values = l.values.items; before = l.before.items; counters = l.counters.items; waiting = l.worklist.waiting } };
+    ghost view = { λ l. record { values = l.values.items; before = l.before.items; counters = l.counters.items; waiting = l.worklist } };
 
-    ghost invariant = { λ l. (l.worklist.room ≡ vec_len l.before) × (vec_len l.before ≤ vec_len l.values) × IsPlaceList l.worklist };
+    ghost invariant = { λ l. (length l.worklist ≡ vec_len l.before) × (vec_len l.before ≤ vec_len l.values) };
 }
 
 impl Local {
@@ -130,15 +129,20 @@ impl Local {
     /// comes next: with it the places come off the worklist by rising values, nearly. It is heeded where no place waits.
     pub fn space_shelves(&mut self, apart: u64)
         ensures { self.new ≡ self.old }
+    {}
 
     /// Puts the list of the places whose values changed since the last `load` or `settle` in rising order, where few did.
     pub fn gather_fallen(&mut self)
         ensures { self.new ≡ self.old }
+    {}
 
     /// The owned places whose values aren't those of `before`, in rising order. `None` comes where many changed, or where
     /// the list was not gathered since.
     pub fn fallen(&self) -> Option<&[u32]>
         ensures { IfSome result (λ places. places.now ≡ fallen_places self.now) }
+    {
+        None
+    }
 
     /// The program's counters, those of the first owned place first.
     pub fn counters(&self) -> &[u64]

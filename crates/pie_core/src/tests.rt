@@ -1,6 +1,7 @@
 ghost use Rattle.std.specs.Prelude.{◌≡◌, ◌∷◌, []};
 
-use crate::{Local, Worklist};
+use crate::Local;
+use crate::worklist::Worklist;
 use graph_core::{Fragment, FragmentParts, Reading, Rows};
 use std::alloc::Global;
 use std::test::Fail;
@@ -45,9 +46,8 @@ fn keeps_places_once(rt: HostRuntime) -> Result<(), Fail> {
     list.push(2);
     list.push(0);
     list.push(2);
-    assert_eq!(rt; list.pop(), Some(2));
-    list.push(2);
     assert_eq!(rt; list.pop(), Some(0));
+    list.push(2);
     assert_eq!(rt; list.pop(), Some(2));
     assert_eq!(rt; list.pop(), None);
     Ok(())

@@ -1,65 +1,65 @@
-ghost use Rattle.std.specs.Prelude.{◌≡◌, ◌<◌, IfOk, IfSome, IsNone, ◌↔◌, []};
-ghost use Rattle.pie_core.specs.PlaceSets.{IsPlaceList};
-ghost use Rattle.pie_core.specs.Worklists.{new_list, with_place, HasFirst};
+ghost use Rattle.std.specs.Prelude.{◌≡◌, ℕ, ◌+◌, ◌<◌, ◌↔◌, true, false, length, replicate, slice_set, IfOk, IfSome, IsNone};
+ghost use Rattle.std.specs.List.{position};
+ghost use Rattle.pie_core.specs.PlaceSets.{waits, how_many};
+ghost use Rattle.pie_core.specs.Worklists.{LosesOne};
 
 use grape_port::NoMemory;
 use std::alloc::Global;
-use std::collections::VecDeque;
 use std::marker::Model;
 
-/// A queue of places, each in it at most once. Its memory is taken when it is made. Contracts see for how many places
-/// it has room, and the list of those that wait, oldest first.
+/// A set of places. Its memory is taken when it is made. Contracts see for each place whether it waits.
 #[derive(Drop)]
-pub struct Worklist {
+pub(crate) struct Worklist {
     is_listed: Vec<bool>,
-    waiting: VecDeque<u32>,
 }
 
 impl Model for Worklist {
-    ghost use Rattle.std.specs.Prelude.{vec_len};
-    ghost use Rattle.std.specs.VecDeque.{deque_capacity};
-    ghost use Rattle.pie_core.specs.PlaceSets.{PlaceList, IsKept};
+    ghost use Rattle.std.specs.Prelude.{◌^◌, ◌<◌, Bool, List, length};
 
-    ghost Value = { PlaceList };
+    ghost Value = { List Bool };
 
-    ghost view = { λ w. record { room = vec_len w.is_listed; waiting = w.waiting.items } };
+    ghost view = { λ w. w.is_listed.items };
 
-    ghost invariant = { λ w. IsKept w.is_listed.items w.waiting.items (deque_capacity w.waiting) };
+    ghost invariant = { λ w. length w.is_listed.items < 2 ^ 32 };
 }
 
 impl Worklist {
-    /// An empty list with room for the places below `room`.
-    pub fn new(alloc: Global, room: usize) -> Result<Worklist, NoMemory>
-        ensures made { IfOk result (λ list. list ≡ new_list room) }
-        ensures list { IfOk result IsPlaceList }
+    /// No places, and room for those below `room`. An error comes where memory runs out, or where there are more places
+    /// than numbers of 32 bits.
+    pub(crate) fn new(alloc: Global, room: usize) -> Result<Worklist, NoMemory>
+        ensures { IfOk result (λ list. list ≡ replicate room false) }
     {
-        let is_listed = vec![in alloc; false; room].map_err(|_| NoMemory)?;
-        let waiting = VecDeque::with_capacity(alloc, room).map_err(|_| NoMemory)?;
-        Ok(Worklist { is_listed, waiting })
-    }
-
-    /// Adds a place at the end where it isn't in the list. The place lies below the room.
-    pub fn push(&mut self, place: u32)
-        requires { place < self.old.room }
-        ensures added { self.new ≡ with_place self.old place }
-        ensures list { IsPlaceList self.new }
-    {
-        let index = place as usize;
-        if !self.is_listed[index] {
-            self.is_listed[index] = true;
-            self.waiting.push_back_reserved(place);
+        if room > u32::MAX as usize {
+            return Err(NoMemory);
         }
+        let is_listed = vec![in alloc; false; room].map_err(|_| NoMemory)?;
+        Ok(Worklist { is_listed })
     }
 
-    /// Takes the oldest place. `None` comes exactly where the list is empty.
-    pub fn pop(&mut self) -> Option<u32>
-        ensures none { IsNone result ↔ (self.old.waiting ≡ []) }
-        ensures first { HasFirst self.old result self.new }
-        ensures inside { IfSome result (λ place. place < self.old.room) }
-        ensures list { IsPlaceList self.new }
+    /// Adds a place.
+    pub(crate) fn push(&mut self, place: u32)
+        requires { place < length self.old }
+        ensures { self.new ≡ slice_set self.old place true }
     {
-        let place = self.waiting.pop_front()?;
-        self.is_listed[place as usize] = false;
-        Some(place)
+        self.is_listed[place as usize] = true;
     }
+
+    /// Takes a place. `None` comes exactly where none waits.
+    pub(crate) fn pop(&mut self) -> Option<u32>
+        ensures none { IsNone result ↔ ((place : ℕ) → waits self.old place ≡ false) }
+        ensures one { LosesOne self.old result self.new }
+        ensures fewer { IfSome result (λ place. how_many self.new + 1 ≡ how_many self.old) }
+        ensures inside { IfSome result (λ place. place < length self.old) }
+    {
+        let place = first_listed(&self.is_listed)?;
+        self.is_listed[place] = false;
+        Some(place as u32)
+    }
+}
+
+/// The first place whose flag is up.
+fn first_listed(is_listed: &[bool]) -> Option<usize>
+    ensures { result ≡ position (λ listed. listed) is_listed.now }
+{
+    is_listed.iter().position(|listed| *listed)
 }
