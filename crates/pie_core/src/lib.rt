@@ -9,6 +9,7 @@ mod evaluation;
 mod laws;
 mod local;
 mod pie;
+mod shelves;
 mod starts;
 mod worklist;
 

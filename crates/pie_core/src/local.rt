@@ -1,5 +1,6 @@
 ghost use Rattle.std.specs.Prelude.{◌≡◌, ℕ, ◌<◌, ◌≤◌, ◌↔◌, true, false, ◌+◌, length, replicate, IfOk, IfSome, IsNone};
 ghost use Rattle.std.specs.Borrow.{sem};
+ghost use Rattle.graph_core.specs.Parts.{place_count};
 ghost use Rattle.pie_core.specs.PlaceSets.{waits, how_many};
 ghost use Rattle.pie_core.specs.Locals.{IsLocal};
 ghost use Rattle.pie_core.specs.LocalCalls.{new_local, loaded, settled, with_value, with_waiting, TakesOne, fallen_places};
@@ -7,7 +8,7 @@ ghost use Rattle.pie_core.specs.LocalLends.{LendsCounters};
 
 use crate::worklist::Worklist;
 use grape_port::NoMemory;
-use graph_core::Fragment;
+use graph_core::{Fragment, Reading};
 use std::alloc::Global;
 use std::marker::Model;
 
@@ -42,14 +43,22 @@ impl Local {
         let Some(places) = owned.checked_add(part.mirrors().len()) else {
             return Err(NoMemory);
         };
+        let Ok(end) = u32::try_from(places) else {
+            return Err(NoMemory);
+        };
         let Some(count) = owned.checked_mul(counters as usize) else {
             return Err(NoMemory);
         };
+        let values = zeros(alloc, places)?;
+        let before = zeros(alloc, owned)?;
+        let counters = zeros(alloc, count)?;
+        let mut worklist = Worklist::new(alloc, owned)?;
+        worklist.space(u64::from(greatest_weight(part, end)));
         Ok(Local {
-            values: zeros(alloc, places)?,
-            before: zeros(alloc, owned)?,
-            counters: zeros(alloc, count)?,
-            worklist: Worklist::new(alloc, owned)?,
+            values,
+            before,
+            counters,
+            worklist,
         })
     }
 
@@ -91,6 +100,7 @@ impl Local {
         ensures { self.new ≡ with_value self.old place value }
     {
         self.values[place as usize] = value;
+        self.worklist.moved(place, value);
     }
 
     /// Puts an owned place on the worklist, where it isn't on it.
@@ -99,7 +109,7 @@ impl Local {
         ensures added { self.new ≡ with_waiting self.old place }
         ensures local { IsLocal self.new }
     {
-        self.worklist.push(place);
+        self.worklist.push(place, self.values[place as usize]);
     }
 
     /// Adds each place below `end`, all of them owned.
@@ -129,7 +139,9 @@ impl Local {
     /// comes next: with it the places come off the worklist by rising values, nearly. It is heeded where no place waits.
     pub fn space_shelves(&mut self, apart: u64)
         ensures { self.new ≡ self.old }
-    {}
+    {
+        self.worklist.space(apart);
+    }
 
     /// Puts the list of the places whose values changed since the last `load` or `settle` in rising order, where few did.
     pub fn gather_fallen(&mut self)
@@ -164,4 +176,24 @@ fn zeros(alloc: Global, count: usize) -> Result<Vec<u64>, NoMemory>
     ensures { IfOk result (λ v. v.items ≡ replicate count 0) }
 {
     Ok(vec![in alloc; 0; count]?)
+}
+
+/// The greatest weight of a reader of a place below `end`, and 0 where there are none.
+fn greatest_weight(part: &Fragment, end: u32) -> u32
+    requires { end ≤ place_count part.now }
+{
+    let mut greatest = 0;
+    'places: for place in 0..end {
+        greatest = greatest_reader(part.readers(place), greatest);
+    }
+    greatest
+}
+
+/// The greatest weight in a row, or `so_far` where that is greater.
+fn greatest_reader(row: &[Reading], so_far: u32) -> u32 {
+    let mut greatest = so_far;
+    'row: for reader in row {
+        greatest = greatest.max(reader.weight);
+    }
+    greatest
 }

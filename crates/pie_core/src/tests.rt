@@ -43,12 +43,71 @@ fn keeps_values(rt: HostRuntime) -> Result<(), Fail> {
 #[test]
 fn keeps_places_once(rt: HostRuntime) -> Result<(), Fail> {
     let mut list = Worklist::new(rt.alloc(), 3)?;
-    list.push(2);
-    list.push(0);
-    list.push(2);
-    assert_eq!(rt; list.pop(), Some(0));
-    list.push(2);
+    list.push(2, 7);
+    list.push(0, 9);
+    list.push(2, 7);
     assert_eq!(rt; list.pop(), Some(2));
+    list.push(2, 8);
+    assert_eq!(rt; list.pop(), Some(2));
+    assert_eq!(rt; list.pop(), Some(0));
     assert_eq!(rt; list.pop(), None);
+    Ok(())
+}
+
+/// Values at most 1,000 apart, four to a shelf; those of one shelf come in the order in which they were put on it.
+#[test]
+fn places_come_by_rising_values(rt: HostRuntime) -> Result<(), Fail> {
+    let mut list = Worklist::new(rt.alloc(), 5)?;
+    list.space(1000);
+    list.push(0, 904);
+    list.push(1, 900);
+    list.push(2, 43);
+    list.push(3, 40);
+    list.push(4, 5);
+    list.moved(1, 20);
+    list.moved(0, 41);
+    assert_eq!(rt; list.pop(), Some(4));
+    assert_eq!(rt; list.pop(), Some(1));
+    list.moved(3, 36);
+    assert_eq!(rt; list.pop(), Some(3));
+    assert_eq!(rt; list.pop(), Some(2));
+    assert_eq!(rt; list.pop(), Some(0));
+    assert_eq!(rt; list.pop(), None);
+    Ok(())
+}
+
+/// Values beyond the last shelf stand on the first ones again; a value below all that wait comes next.
+#[test]
+fn shelves_go_round(rt: HostRuntime) -> Result<(), Fail> {
+    let mut list = Worklist::new(rt.alloc(), 5)?;
+    list.space(10);
+    list.push(0, 261);
+    list.push(1, 258);
+    list.push(2, 250);
+    list.push(3, 255);
+    list.push(4, 1000);
+    assert_eq!(rt; list.pop(), Some(2));
+    assert_eq!(rt; list.pop(), Some(3));
+    list.moved(4, 254);
+    assert_eq!(rt; list.pop(), Some(4));
+    assert_eq!(rt; list.pop(), Some(1));
+    assert_eq!(rt; list.pop(), Some(0));
+    assert_eq!(rt; list.pop(), None);
+    Ok(())
+}
+
+#[test]
+fn shelves_are_spaced_where_none_waits(rt: HostRuntime) -> Result<(), Fail> {
+    let mut list = Worklist::new(rt.alloc(), 2)?;
+    list.push(0, 100);
+    list.push(1, 90);
+    list.space(u64::MAX);
+    assert_eq!(rt; list.pop(), Some(1));
+    assert_eq!(rt; list.pop(), Some(0));
+    list.space(u64::MAX);
+    list.push(0, 100);
+    list.push(1, 90);
+    assert_eq!(rt; list.pop(), Some(0));
+    assert_eq!(rt; list.pop(), Some(1));
     Ok(())
 }
