@@ -1,8 +1,11 @@
 -- Mirrors are lowered by a hand.
-use Rattle.std.proofs.Common.{◌≡◌, ◌≢◌, ℕ, zero, suc, ◌+◌, ◌<◌, ◌≤◌, inl, inr, refl, sym, ◌∙◌, ap, subst, arith, List, [], ◌∷◌, ◌++◌, length, take, drop, slice_index}
+use Rattle.std.proofs.Common.{◌≡◌, ◌≢◌, ℕ, zero, suc, ◌+◌, ◌<◌, ◌≤◌, inl, inr, refl, sym, ◌∙◌, ap, subst, arith, ◌⊎◌, add-one, List, [], ◌∷◌, ◌++◌, length, take, drop, replicate, slice_index}
 use Rattle.std.specs.Prelude.{slice_set, min}
 use Rattle.std.proofs.lemmas.Bool.{cases_eq, cases_lt}
-use Rattle.std.proofs.lemmas.List.{get_or-set_same, get_or-set_other, length-set, set-get_or, take-append-drop}
+use Rattle.std.proofs.lemmas.List.{get_or-set_same, get_or-set_other, get_or-replicate, get_or-drop, get_or_default, length-set, length-replicate, set-get_or, take-append-drop}
+use Rattle.std.proofs.lemmas.Grind.{same_number_lists}
+use Rattle.value_order.specs.declared.TheConstants.{NOTHING}
+use Rattle.message_buffer.specs.Hands.{AreMirrorsOf}
 use Rattle.value_order.specs.declared.order.Order.TheVariants.{Least}
 use Rattle.graph_core.specs.Parts.{FragmentLists}
 use Rattle.pie_core.specs.Locals.{LocalValues, FitsPart}
@@ -96,41 +99,108 @@ mirror-fallen cost part a b c m value mirror inside h k = fallen-trans cost part
 
 -- ---- all mirrors, as far as a hand goes
 
-met-none : (xs : List ℕ) → met Least xs [] ≡ xs
-met-none [] = refl
-met-none (x ∷ xs) = refl
+met-nothing : (xs : List ℕ) (n : ℕ) → AreAtMostFar xs → met Least xs (replicate n NOTHING) ≡ xs
+met-nothing [] n h = refl
+met-nothing (x ∷ xs) zero h = refl
+met-nothing (x ∷ xs) (suc n) h =
+    let e : min x NOTHING ≡ x = let k = h 0 in omega (arith, k) in
+    λ t. e t ∷ met-nothing xs n (λ q. h (suc q)) t
 
-pub no-mirrors : (part : FragmentLists) (local : LocalValues) → with_mirrors part local [] ≡ local
-no-mirrors part local = ap (λ (xs : List ℕ). let l : LocalValues = record local { values = xs } in l) (ap (λ ys. take (length part.owned) local.values ++ ys) (met-none (drop (length part.owned) local.values)) ∙ take-append-drop (length part.owned) local.values)
+drop-far : (n : ℕ) (xs : List ℕ) → AreAtMostFar xs → AreAtMostFar (drop n xs)
+drop-far n xs h q = let e = get_or-drop n xs q 0 in let k = h (n + q) in omega (arith, e, k)
+
+pub no-mirrors : (part : FragmentLists) (local : LocalValues) (m : ℕ) → AreAtMostFar local.values → with_mirrors part local (replicate m NOTHING) ≡ local
+no-mirrors part local m h =
+    let n = length part.owned in
+    ap (λ (xs : List ℕ). let l : LocalValues = record local { values = xs } in l) (ap (λ ys. take n local.values ++ ys) (met-nothing (drop n local.values) m (drop-far n local.values h)) ∙ take-append-drop n local.values)
+
+-- the hand's values for the first mirrors of a list
+abbrev pub shown : List ℕ → List ℕ → ℕ → List ℕ
+shown hand mirrors zero = replicate (length hand) NOTHING
+shown hand mirrors (suc i) = slice_set (shown hand mirrors i) (slice_index mirrors i) (slice_index hand (slice_index mirrors i))
+
+pub shown-length : (hand mirrors : List ℕ) (i : ℕ) → length (shown hand mirrors i) ≡ length hand
+shown-length hand mirrors zero = length-replicate (length hand) NOTHING
+shown-length hand mirrors (suc i) = length-set (shown hand mirrors i) (slice_index mirrors i) (slice_index hand (slice_index mirrors i)) ∙ shown-length hand mirrors i
+
+-- each value is the hand's, or its mirror is ahead
+abbrev IsShown : List ℕ → List ℕ → ℕ → ℕ → Type 0
+IsShown hand mirrors i m = (slice_index (shown hand mirrors i) m ≡ slice_index hand m) ⊎ ((slice_index (shown hand mirrors i) m ≡ NOTHING) × ((k : ℕ) → k < i → slice_index mirrors k ≢ m))
+
+shown-at : (hand mirrors : List ℕ) (i m : ℕ) → m < length hand → IsShown hand mirrors i m
+shown-at hand mirrors zero m h = inr (get_or-replicate (length hand) m NOTHING 0 h, λ k l. absurd (omega (arith, l)))
+shown-at hand mirrors (suc i) m h = elim (cases_eq m (slice_index mirrors i)) [
+  | inl e ↦ inl (shown_here e)
+  | inr d ↦ shown_other d (shown-at hand mirrors i m h)
+]
+  where
+    shown_here : m ≡ slice_index mirrors i → slice_index (shown hand mirrors (suc i)) m ≡ slice_index hand m
+    shown_here e =
+        let n = shown-length hand mirrors i in
+        ap (slice_index (shown hand mirrors (suc i))) e ∙ get_or-set_same (shown hand mirrors i) (slice_index mirrors i) (slice_index hand (slice_index mirrors i)) 0 (omega (arith, n, h, e)) ∙ ap (slice_index hand) (sym e)
+
+    shown_other : m ≢ slice_index mirrors i → IsShown hand mirrors i m → IsShown hand mirrors (suc i) m
+    shown_other d (inl e) = inl (get_or-set_other (shown hand mirrors i) (slice_index mirrors i) m (slice_index hand (slice_index mirrors i)) 0 d ∙ e)
+    shown_other d (inr r) = inr (
+      get_or-set_other (shown hand mirrors i) (slice_index mirrors i) m (slice_index hand (slice_index mirrors i)) 0 d ∙ r.0,
+      λ k l. elim (cases_eq k i) [
+        | inl e ↦ λ s. d (sym s ∙ ap (slice_index mirrors) e)
+        | inr n ↦ r.1 k (omega (arith, l, n))
+      ],
+    )
+
+-- a hand's list that is gone through has shown all
+pub shown-all : (hand mirrors : List ℕ) (i : ℕ) → AreMirrorsOf hand mirrors → length mirrors ≤ i → shown hand mirrors i ≡ hand
+shown-all hand mirrors i are h = same_number_lists (shown hand mirrors i) hand (shown-length hand mirrors i) (λ m l. let inside : m < length hand = let n = shown-length hand mirrors i in omega (arith, l, n) in go m inside (shown-at hand mirrors i m inside))
+  where
+    go : (m : ℕ) → m < length hand → IsShown hand mirrors i m → slice_index (shown hand mirrors i) m ≡ slice_index hand m
+    go m l (inl e) = e
+    go m l (inr r) = elim (cases_eq (slice_index hand m) NOTHING) [
+      | inl e ↦ r.0 ∙ sym e
+      | inr n ↦ let c = are.all m l n in absurd (r.1 c.0 (let k = c.1 in omega (arith, k, h)) (get_or_default mirrors c.0 0 m c.1 ∙ c.2))
+    ]
 
 -- one value more of the hand
-met-more : (xs hand : List ℕ) (k : ℕ) → k < length hand → k < length xs → met Least xs (take (suc k) hand) ≡ slice_set (met Least xs (take k hand)) k (min (slice_index (met Least xs (take k hand)) k) (slice_index hand k))
-met-more [] hand k h l = absurd (omega (arith, l))
-met-more (x ∷ xs) [] k h l = absurd (omega (arith, h))
-met-more (x ∷ xs) (a ∷ hand) zero h l = ap (λ ys. min x a ∷ ys) (met-none xs)
-met-more (x ∷ xs) (a ∷ hand) (suc k) h l = ap (λ ys. min x a ∷ ys) (met-more xs hand k (omega (arith, h)) (omega (arith, l)))
+met-set : (xs hand : List ℕ) (k v : ℕ) → k < length hand → k < length xs → (slice_index hand k ≡ v) ⊎ (slice_index xs k ≤ slice_index hand k) → met Least xs (slice_set hand k v) ≡ slice_set (met Least xs hand) k (min (slice_index (met Least xs hand) k) v)
+met-set [] hand k v h l c = absurd (omega (arith, l))
+met-set (x ∷ xs) [] k v h l c = absurd (omega (arith, h))
+met-set (x ∷ xs) (a ∷ hand) zero v h l c = ap (λ (y : ℕ). y ∷ met Least xs hand) (twice c)
+  where
+    twice : (a ≡ v) ⊎ (x ≤ a) → min x v ≡ min (min x a) v
+    twice (inl e) = omega (arith, e)
+    twice (inr e) = omega (arith, e)
+met-set (x ∷ xs) (a ∷ hand) (suc k) v h l c = ap (λ ys. min x a ∷ ys) (met-set xs hand k v (omega (arith, h)) (omega (arith, l)) c)
 
-lowered-more : (n : ℕ) (xs hand : List ℕ) (k : ℕ) → k < length hand → n + k < length xs →
-    let so_far : List ℕ = take n xs ++ met Least (drop n xs) (take k hand) in
-    take n xs ++ met Least (drop n xs) (take (suc k) hand) ≡ slice_set so_far (n + k) (min (slice_index so_far (n + k)) (slice_index hand k))
-lowered-more zero xs hand k h l =
-    let so_far : List ℕ = met Least xs (take k hand) in
+lowered-set : (n : ℕ) (xs hand : List ℕ) (k v : ℕ) → k < length hand → n + k < length xs → (slice_index hand k ≡ v) ⊎ (slice_index (drop n xs) k ≤ slice_index hand k) →
+    let so_far : List ℕ = take n xs ++ met Least (drop n xs) hand in
+    take n xs ++ met Least (drop n xs) (slice_set hand k v) ≡ slice_set so_far (n + k) (min (slice_index so_far (n + k)) v)
+lowered-set zero xs hand k v h l c =
+    let so_far : List ℕ = met Least xs hand in
     let e : k ≡ 0 + k = omega arith in
-    met-more xs hand k h (omega (arith, l)) ∙ ap (λ m. slice_set so_far m (min (slice_index so_far m) (slice_index hand k))) e
-lowered-more (suc n) [] hand k h l = absurd (omega (arith, l))
-lowered-more (suc n) (x ∷ xs) hand k h l =
-    let so_far : List ℕ = take n xs ++ met Least (drop n xs) (take k hand) in
+    met-set xs hand k v h (omega (arith, l)) c ∙ ap (λ m. slice_set so_far m (min (slice_index so_far m) v)) e
+lowered-set (suc n) [] hand k v h l c = absurd (omega (arith, l))
+lowered-set (suc n) (x ∷ xs) hand k v h l c =
+    let so_far : List ℕ = take n xs ++ met Least (drop n xs) hand in
     let e : suc (n + k) ≡ suc n + k = omega arith in
-    ap (λ ys. x ∷ ys) (lowered-more n xs hand k h (omega (arith, l))) ∙ ap (λ m. slice_set (x ∷ so_far) m (min (slice_index (x ∷ so_far) m) (slice_index hand k))) e
+    ap (λ ys. x ∷ ys) (lowered-set n xs hand k v h (omega (arith, l)) c) ∙ ap (λ m. slice_set (x ∷ so_far) m (min (slice_index (x ∷ so_far) m) v)) e
 
-pub mirrors-more : (part : FragmentLists) (local : LocalValues) (hand : List ℕ) (k m : ℕ) → k < length hand → m ≡ length part.owned + k → m < length local.values →
-    with_mirrors part local (take (k + 1) hand) ≡ mirror_met (with_mirrors part local (take k hand)) m (slice_index hand k)
-mirrors-more part local hand k m h e l =
-    let n = length part.owned in
-    let so_far : List ℕ = take n local.values ++ met Least (drop n local.values) (take k hand) in
-    let one : k + 1 ≡ suc k = omega arith in
-    let list = ap (λ j. take n local.values ++ met Least (drop n local.values) (take j hand)) one ∙ lowered-more n local.values hand k h (omega (arith, e, l)) ∙ ap (λ j. slice_set so_far j (min (slice_index so_far j) (slice_index hand k))) (sym e) in
-    ap (λ (xs : List ℕ). let r : LocalValues = record local { values = xs } in r) list
+pub mirrors-more : (part : FragmentLists) (local : LocalValues) (hand mirrors : List ℕ) (i k m : ℕ) → AreAtMostFar local.values → k ≡ slice_index mirrors i → k < length hand → m ≡ length part.owned + k → m < length local.values →
+    with_mirrors part local (shown hand mirrors (i + 1)) ≡ mirror_met (with_mirrors part local (shown hand mirrors i)) m (slice_index hand k)
+mirrors-more part local hand mirrors i k m far is h e l = ap (λ (xs : List ℕ). let r : LocalValues = record local { values = xs } in r) list
+  where
+    known : IsShown hand mirrors i k → (slice_index (shown hand mirrors i) k ≡ slice_index hand k) ⊎ (slice_index (drop (length part.owned) local.values) k ≤ slice_index (shown hand mirrors i) k)
+    known (inl s) = inl s
+    known (inr r) = inr (let f = drop-far (length part.owned) local.values far k in let z = r.0 in omega (arith, f, z))
+
+    list : take (length part.owned) local.values ++ met Least (drop (length part.owned) local.values) (shown hand mirrors (i + 1)) ≡ slice_set (take (length part.owned) local.values ++ met Least (drop (length part.owned) local.values) (shown hand mirrors i)) m (min (slice_index (take (length part.owned) local.values ++ met Least (drop (length part.owned) local.values) (shown hand mirrors i)) m) (slice_index hand k))
+    list =
+        let o = length part.owned in
+        let so_far : List ℕ = take o local.values ++ met Least (drop o local.values) (shown hand mirrors i) in
+        let len = shown-length hand mirrors i in
+        ap (λ j. take o local.values ++ met Least (drop o local.values) (shown hand mirrors j)) (add-one i)
+        ∙ ap (λ j. take o local.values ++ met Least (drop o local.values) (slice_set (shown hand mirrors i) j (slice_index hand j))) (sym is)
+        ∙ lowered-set o local.values (shown hand mirrors i) k (slice_index hand k) (omega (arith, h, len)) (omega (arith, e, l)) (known (shown-at hand mirrors i k h))
+        ∙ ap (λ j. slice_set so_far j (min (slice_index so_far j) (slice_index hand k))) (sym e)
 
 met-length : (xs hand : List ℕ) → length (met Least xs hand) ≡ length xs
 met-length [] hand = refl

@@ -1,24 +1,17 @@
 -- Steps by which values fall.
-use Rattle.std.proofs.Common.{◌≡◌, ◌≢◌, ℕ, ◌+◌, ◌<◌, ◌≤◌, ◌⊎◌, inl, inr, Bool, true, false, cond, if◌then◌else◌, nat_lt, refl, sym, ◌∙◌, ap, subst, arith, List, [], ◌∷◌, ◌++◌, length, slice_index, slice_index_or, Contains, sum, Some}
+use Rattle.std.proofs.Common.{◌≡◌, ◌≢◌, ℕ, ◌+◌, ◌<◌, ◌≤◌, ◌⊎◌, inl, inr, Bool, true, false, cond, nat_lt, refl, sym, ◌∙◌, ap, subst, arith, List, [], length, slice_index, slice_index_or, slice_set, Contains, sum, Some}
 use Rattle.std.proofs.lemmas.Bool.{cases_eq}
 use Rattle.std.proofs.lemmas.Bool.Decides.{nat_tests}
-use Rattle.std.proofs.lemmas.List.{get_or-set_same, get_or-set_other, length-set, length_push, get_or_default}
+use Rattle.std.proofs.lemmas.List.{get_or-set_same, get_or-set_other, length-set, get_or_default}
 use Rattle.std.proofs.lemmas.List.Sums.{sum_by-set}
 use Rattle.graph_core.specs.declared.fragment.Reading.{Reading}
 use Rattle.graph_core.specs.Parts.{FragmentLists, place_count}
-use Rattle.pie_core.specs.PlaceSets.{waits}
+use Rattle.graph_core.specs.declared.TheConstants.{FAR}
+use Rattle.pie_core.specs.PlaceSets.{waits, how_many}
 use Rattle.pie_core.specs.Locals.{LocalValues, FitsPart}
-use Rattle.pie_core.specs.LocalCalls.{with_value, with_waiting, TakesOldest}
-use Rattle.pie_core.proofs.Places.{waits_on, waits_new, still_waits}
-use Rattle.pie_lowering.specs.Lowering.{LieBelow, AreAtMostFar, HoldsReaders, HoldsAllReaders, IsSettled, lowered_to, HasFallen, work_left, WaitWhereFell}
-
--- at most one place more waits
-one_more : (waiting : List ℕ) (p : ℕ) → length (if waits waiting p then waiting else waiting ++ p ∷ []) ≤ length waiting + 1
-one_more waiting p = go (waits waiting p)
-  where
-    go : (c : Bool) → length (cond c waiting (waiting ++ p ∷ [])) ≤ length waiting + 1
-    go true = omega arith
-    go false = omega (arith, length_push waiting p)
+use Rattle.pie_core.specs.LocalCalls.{with_value, with_waiting, TakesOne}
+use Rattle.pie_core.proofs.Places.{waits_on, waits_new, still_waits, one_more, one_less}
+use Rattle.pie_lowering.specs.Lowering.{LieBelow, AreAtMostFar, HoldsReaders, WaitsOrHolds, lowered_to, HasFallen, work_left, WaitWhereFell}
 
 -- ---- steps in a row
 
@@ -75,7 +68,7 @@ pub record LowersOne (cost : ℕ → ℕ) (part : FragmentLists) (old new : Loca
   pub at_most : slice_index new.values p ≤ slice_index old.values q + cost w
   pub stays : slice_index new.values q ≡ slice_index old.values q
 
-module _ (cost : ℕ → ℕ) (part : FragmentLists) (old : LocalValues) (p q w : ℕ) (fits : FitsPart part old) (row : Contains (slice_index_or part.readers q []) (record { place = p; weight = w })) (q_in : q < place_count part) (p_owned : p < length part.owned) where
+module _ (cost : ℕ → ℕ) (part : FragmentLists) (old : LocalValues) (p q w : ℕ) (fits : FitsPart part old) (row : Contains (slice_index_or part.readers q []) (record { place = p; weight = w })) (q_in : q < place_count part) (p_owned : p < length part.owned) (known : p < length old.waiting) where
   abbrev offer : ℕ
   offer = slice_index old.values q + cost w
 
@@ -110,7 +103,7 @@ module _ (cost : ℕ → ℕ) (part : FragmentLists) (old : LocalValues) (p q w 
     waits = record {
       on = λ v h. waits_on old.waiting p v h;
       fell = λ v. elim (cases_eq v p) [
-        | inl e ↦ inr (subst (λ u. waits fallen.waiting u ≡ true) (sym e) (waits_new old.waiting p))
+        | inl e ↦ inr (subst (λ u. waits fallen.waiting u ≡ true) (sym e) (waits_new old.waiting p known))
         | inr d ↦ inl (elsewhere v d)
       ];
       no_more =
@@ -156,23 +149,48 @@ place-settled cost part old new q below w (inr h) = elim (w.fell q) [
   | inr k ↦ inl k
 ]
 
-pub popped-settled : (cost : ℕ → ℕ) (part : FragmentLists) (old mid new : LocalValues) (place : ℕ) → TakesOldest old (Some place) mid → HasFallen cost part mid new → WaitWhereFell mid new → HoldsReaders cost part new.values place → IsSettled cost part old → IsSettled cost part new
-popped-settled cost part old mid new place taken fell w here h q l = elim (cases_eq q place) [
+-- what is left where one was taken
+pub taken-waiting : (old mid : LocalValues) (place : ℕ) → TakesOne old (Some place) mid → mid.waiting ≡ slice_set old.waiting place false
+taken-waiting old mid place taken = ap (λ (x : LocalValues). x.waiting) taken.1
+
+pub taken-rest : (old mid : LocalValues) (place : ℕ) → TakesOne old (Some place) mid → mid ≡ record old { waiting = mid.waiting }
+taken-rest old mid place taken = taken.1 ∙ ap (λ (ws : List Bool). let x : LocalValues = record old { waiting = ws } in x) (sym (taken-waiting old mid place taken))
+
+pub popped-settled : (cost : ℕ → ℕ) (part : FragmentLists) (old mid new : LocalValues) (place q : ℕ) → TakesOne old (Some place) mid → HasFallen cost part mid new → WaitWhereFell mid new → HoldsReaders cost part new.values place → WaitsOrHolds cost part old q → WaitsOrHolds cost part new q
+popped-settled cost part old mid new place q taken fell w here h = elim (cases_eq q place) [
   | inl e ↦ inr (subst (λ u. HoldsReaders cost part new.values u) (sym e) here)
-  | inr d ↦ place-settled cost part mid new q fell.below w (elim (h q l) [
-    | inl k ↦ inl (still_waits mid.waiting place q d (subst (λ ws. waits ws q ≡ true) taken.0 k))
+  | inr d ↦ place-settled cost part mid new q fell.below w (elim h [
+    | inl k ↦ inl (subst (λ ws. waits ws q ≡ true) (sym (taken-waiting old mid place taken)) (still_waits old.waiting place q d k))
     | inr k ↦ inr (subst (λ xs. HoldsReaders cost part xs q) (sym (ap (λ (x : LocalValues). x.values) taken.1)) k)
   ])
 ]
 
-pub popped-less : (old mid new : LocalValues) (place : ℕ) → TakesOldest old (Some place) mid → WaitWhereFell mid new → work_left new < work_left old
+pub popped-less : (old mid new : LocalValues) (place : ℕ) → TakesOne old (Some place) mid → WaitWhereFell mid new → work_left new < work_left old
 popped-less old mid new place taken w =
     let s = ap (λ (x : LocalValues). sum x.values) taken.1 in
-    let n = ap length taken.0 in
-    omega (arith, w.no_more, s, n)
+    let n = ap how_many (taken-waiting old mid place taken) in
+    let m = one_less old.waiting place taken.0 in
+    omega (arith, w.no_more, s, n, m)
 
-pub none-relaxed : (cost : ℕ → ℕ) (part : FragmentLists) (local : LocalValues) → local.waiting ≡ [] → IsSettled cost part local → HoldsAllReaders cost part local.values
-none-relaxed cost part local none h q l = elim (h q l) [
-  | inl k ↦ absurd (let x : false ≡ true = subst (λ ws. waits ws q ≡ true) none k in cc)
-  | inr k ↦ k
-]
+pub none-relaxed : (cost : ℕ → ℕ) (part : FragmentLists) (local : LocalValues) (q : ℕ) → waits local.waiting q ≡ false → WaitsOrHolds cost part local q → HoldsReaders cost part local.values q
+none-relaxed cost part local q none (inl k) = absurd (let x : false ≡ true = sym none ∙ k in cc)
+none-relaxed cost part local q none (inr k) = k
+
+-- ---- where places are begun at
+
+-- no value is greater than FAR
+pub far-holds : (cost : ℕ → ℕ) (part : FragmentLists) (xs : List ℕ) (q : ℕ) → AreAtMostFar xs → FAR ≤ slice_index xs q → HoldsReaders cost part xs q
+far-holds cost part xs q h l r c = let k = h r.place in omega (arith, k, l)
+
+pub listed-rest : (old new : LocalValues) (place : ℕ) → new ≡ with_waiting old place → new ≡ record old { waiting = new.waiting }
+listed-rest old new place e = e ∙ ap (λ (ws : List Bool). let x : LocalValues = record old { waiting = ws } in x) (sym (ap (λ (x : LocalValues). x.waiting) e))
+
+pub listed-here : (cost : ℕ → ℕ) (part : FragmentLists) (old new : LocalValues) (place : ℕ) → new ≡ with_waiting old place → place < length old.waiting → WaitsOrHolds cost part new place
+listed-here cost part old new place e h = subst (λ (l : LocalValues). WaitsOrHolds cost part l place) (sym e) (inl (waits_new old.waiting place h))
+
+pub listed-others : (cost : ℕ → ℕ) (part : FragmentLists) (old new : LocalValues) (place q : ℕ) → new ≡ with_waiting old place → WaitsOrHolds cost part old q → WaitsOrHolds cost part new q
+listed-others cost part old new place q e h = subst (λ (l : LocalValues). WaitsOrHolds cost part l q) (sym e) (go h)
+  where
+    go : WaitsOrHolds cost part old q → WaitsOrHolds cost part (with_waiting old place) q
+    go (inl k) = inl (waits_on old.waiting place q k)
+    go (inr k) = inr k

@@ -4,7 +4,7 @@ use Rattle.value_order.specs.declared.order.Order.TheVariants.{Least}
 use Rattle.graph_core.specs.declared.TheConstants.{FAR}
 use Rattle.graph_core.specs.declared.fragment.Reading.{Reading}
 use Rattle.graph_core.specs.Parts.{FragmentLists, place_count}
-use Rattle.pie_core.specs.PlaceSets.{waits}
+use Rattle.pie_core.specs.PlaceSets.{waits, how_many}
 use Rattle.pie_core.specs.Locals.{LocalValues}
 use Rattle.pie_core.specs.LocalCalls.{with_value, with_waiting}
 use Rattle.pie_core.specs.Solutions.{mirrors_lowered}
@@ -21,6 +21,10 @@ HoldsReaders cost part xs q = (r : Reading) → Contains (slice_index_or part.re
 
 abbrev pub HoldsAllReaders : (ℕ → ℕ) → FragmentLists → List ℕ → Type 0
 HoldsAllReaders cost part xs = (q : ℕ) → q < place_count part → HoldsReaders cost part xs q
+
+-- a place waits to be looked at, or holds its readers
+abbrev pub WaitsOrHolds : (ℕ → ℕ) → FragmentLists → LocalValues → ℕ → Type 0
+WaitsOrHolds cost part local q = (waits local.waiting q ≡ true) ⊎ HoldsReaders cost part local.values q
 
 -- each place waits to be looked at, or holds its readers
 abbrev pub IsSettled : (ℕ → ℕ) → FragmentLists → LocalValues → Type 0
@@ -41,7 +45,7 @@ pub record HasFallen (cost : ℕ → ℕ) (part : FragmentLists) (old new : Loca
 
 -- what is left to do at most: a value that falls makes one place wait
 abbrev pub work_left : LocalValues → ℕ
-work_left local = 2 * sum local.values + length local.waiting
+work_left local = 2 * sum local.values + how_many local.waiting
 
 -- Who waited waits on, each place whose value fell waits, and there is no more to do.
 pub record WaitWhereFell (old new : LocalValues) : Type 0 where

@@ -1,4 +1,4 @@
-ghost use Rattle.std.specs.Prelude.{◌≡◌, ℕ, ◌≤◌};
+ghost use Rattle.std.specs.Prelude.{◌≡◌, ℕ, ◌≤◌, IsTrue};
 
 /// What is added to a value that is read, by the weight of the edge between.
 pub trait Cost {
@@ -9,6 +9,10 @@ pub trait Cost {
     fn cost(weight: u32) -> u64
         ensures exact { result ≡ cost_of weight }
         ensures at_most { result ≤ weight };
+
+    /// Whether every weight costs nothing, so that values spread as they are.
+    fn is_nothing() -> bool
+        ensures { IsTrue result → (weight : ℕ) → cost_of weight ≡ 0 };
 }
 
 /// The whole weight is added, as for distances.
@@ -23,6 +27,10 @@ impl Cost for Weights {
     fn cost(weight: u32) -> u64 {
         u64::from(weight)
     }
+
+    fn is_nothing() -> bool {
+        false
+    }
 }
 
 /// Nothing is added, as for labels and reachability.
@@ -36,5 +44,9 @@ impl Cost for NoCost {
 
     fn cost(_weight: u32) -> u64 {
         0
+    }
+
+    fn is_nothing() -> bool {
+        true
     }
 }

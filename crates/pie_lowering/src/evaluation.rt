@@ -4,6 +4,7 @@ ghost use Rattle.graph_core.specs.Queries.{equations_of};
 ghost use Rattle.pie_core.specs.Solutions.{IsLocalSolution, lowered, IsReadyFor, IsReadyAgain};
 ghost use Rattle.pie_lowering.specs.LeastEquations.{IsLeastJob};
 
+use crate::beginning::{begin, space_by_hand, space_by_mirrors};
 use crate::cost::Cost;
 use crate::lowering::{lower_mirror_readers, lower_mirrors, work_off};
 use graph_core::Fragment;
@@ -11,7 +12,7 @@ use message_buffer::Hand;
 use pie_core::Local;
 
 /// Evaluates a fragment of a job with least equations: leaves the local solution of the values at entry, which lie below
-/// the starts. Each owned place is looked at once, and again after its value fell.
+/// the starts. Each owned place whose value isn't `FAR` is looked at once, and again after its value fell.
 pub fn evaluate<C: Cost>(part: &Fragment, local: &mut Local)
     requires { (job : Job) × IsLeastJob C.cost_of job × IsReadyFor (equations_of job) job part.now local.old 0 }
     ensures solution { (job : Job) → IsLeastJob C.cost_of job → IsReadyFor (equations_of job) job part.now local.old 0 →
@@ -20,7 +21,8 @@ pub fn evaluate<C: Cost>(part: &Fragment, local: &mut Local)
     ensures before { local.new.before ≡ local.old.before }
     ensures counters { local.new.counters ≡ local.old.counters }
 {
-    local.enqueue_below(part.owned().len() as u32);
+    begin::<C>(part, local);
+    space_by_mirrors::<C>(part, local);
     lower_mirror_readers::<C>(part, local);
     work_off::<C>(part, local);
 }
@@ -36,6 +38,7 @@ pub fn evaluate_again<C: Cost>(part: &Fragment, local: &mut Local, hand: &Hand)
     ensures before { local.new.before ≡ local.old.before }
     ensures counters { local.new.counters ≡ local.old.counters }
 {
+    space_by_hand::<C>(local, hand);
     lower_mirrors::<C>(part, local, hand);
     work_off::<C>(part, local);
 }

@@ -5,9 +5,12 @@
 //! reachability stand on it.
 //!
 //! A value that falls is offered to the readers of its place, and no other place is looked at. (The label-correcting
-//! method of Ford and Moore, from a queue.)
+//! method of Ford and Moore.) Which place comes next changes no answer: places come by rising values, as nearly as the
+//! shelves tell, as in Dial's and Dijkstra's methods, and where weights cost nothing, what is connected is flooded from its
+//! first place.
 #![tactic(auto)]
 
+mod beginning;
 mod cost;
 mod evaluation;
 mod lowering;

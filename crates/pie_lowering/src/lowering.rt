@@ -1,10 +1,8 @@
-ghost use Rattle.std.specs.Prelude.{◌≡◌, ℕ, ◌<◌, ◌≤◌, true, length, min, slice_index};
-ghost use Rattle.value_order.specs.declared.order.Order.TheVariants.{Least};
+ghost use Rattle.std.specs.Prelude.{◌≡◌, ℕ, ◌<◌, ◌≤◌, length, min, slice_index};
 ghost use Rattle.graph_core.specs.Parts.{place_count};
-ghost use Rattle.pie_core.specs.Locals.{FitsPart};
-ghost use Rattle.pie_core.specs.PlaceSets.{waits};
+ghost use Rattle.pie_core.specs.Locals.{IsLocal, FitsPart};
 ghost use Rattle.pie_core.specs.LocalCalls.{with_value};
-ghost use Rattle.pie_lowering.specs.Lowering.{AreAtMostFar, HasFallen, HoldsReaders, HoldsAllReaders, IsSettled, WaitWhereFell, lowered_to, with_mirrors};
+ghost use Rattle.pie_lowering.specs.Lowering.{AreAtMostFar, HasFallen, HoldsReaders, WaitsOrHolds, IsSettled, WaitWhereFell, lowered_to, with_mirrors};
 
 use crate::cost::Cost;
 use graph_core::Fragment;
@@ -15,7 +13,8 @@ use pie_core::Local;
 fn lower(local: &mut Local, reader: u32, value: u64)
     requires place { reader < length local.old.values }
     requires owned { reader < length local.old.before }
-    ensures { local.new ≡ lowered_to local.old reader value }
+    ensures lowered { local.new ≡ lowered_to local.old reader value }
+    ensures local { IsLocal local.old }
 {
     if value < local.values()[reader as usize] {
         local.set(reader, value);
@@ -38,12 +37,12 @@ fn lower_readers<C: Cost>(part: &Fragment, local: &mut Local, place: u32)
     }
 }
 
-/// Lowers the readers of each mirror. Where each owned place waits, each place waits or holds its readers afterwards.
+/// Lowers the readers of each mirror. Where each owned place waits or holds its readers, each place does afterwards.
 pub fn lower_mirror_readers<C: Cost>(part: &Fragment, local: &mut Local)
     requires fits { FitsPart part.now local.old }
     requires at_most_far { AreAtMostFar local.old.values }
     ensures fallen { HasFallen C.cost_of part.now local.old local.new }
-    ensures settled { ((place : ℕ) → place < length part.now.owned → waits local.old.waiting place ≡ true) → IsSettled C.cost_of part.now local.new }
+    ensures settled { ((place : ℕ) → place < length part.now.owned → WaitsOrHolds C.cost_of part.now local.old place) → IsSettled C.cost_of part.now local.new }
 {
     let owned = part.owned().len() as u32;
     let places = owned + part.mirrors().len() as u32;
@@ -52,12 +51,13 @@ pub fn lower_mirror_readers<C: Cost>(part: &Fragment, local: &mut Local)
     }
 }
 
-/// Lowers the readers of each place that waits, until none waits.
+/// Lowers the readers of each place that waits, until none waits. A place that waited or held its readers holds them
+/// afterwards.
 pub fn work_off<C: Cost>(part: &Fragment, local: &mut Local)
     requires fits { FitsPart part.now local.old }
     requires at_most_far { AreAtMostFar local.old.values }
     ensures fallen { HasFallen C.cost_of part.now local.old local.new }
-    ensures relaxed { IsSettled C.cost_of part.now local.old → HoldsAllReaders C.cost_of part.now local.new.values }
+    ensures holds { (place : ℕ) → place < place_count part.now → WaitsOrHolds C.cost_of part.now local.old place → HoldsReaders C.cost_of part.now local.new.values place }
 {
     'work: while let Some(place) = local.dequeue() {
         lower_readers::<C>(part, local, place);
@@ -79,7 +79,7 @@ fn lower_mirror<C: Cost>(part: &Fragment, local: &mut Local, place: u32, value: 
     }
 }
 
-/// Lowers each mirror by the hand, and the readers of each that fell.
+/// Lowers each mirror by the hand, and the readers of each that fell. Goes over the mirrors that the hand lists alone.
 pub fn lower_mirrors<C: Cost>(part: &Fragment, local: &mut Local, hand: &Hand)
     requires fits { FitsPart part.now local.old }
     requires at_most_far { AreAtMostFar local.old.values }
@@ -87,8 +87,9 @@ pub fn lower_mirrors<C: Cost>(part: &Fragment, local: &mut Local, hand: &Hand)
     ensures fallen { HasFallen C.cost_of part.now (with_mirrors part.now local.old hand.now.values) local.new }
     ensures settled { IsSettled C.cost_of part.now local.old → IsSettled C.cost_of part.now local.new }
 {
-    let owned = part.owned().len();
-    'hand: for (mirror, value) in hand.values().iter().enumerate() {
-        lower_mirror::<C>(part, local, (owned + mirror) as u32, *value);
+    let owned = part.owned().len() as u32;
+    let values = hand.values();
+    'hand: for mirror in hand.mirrors() {
+        lower_mirror::<C>(part, local, owned + *mirror, values[*mirror as usize]);
     }
 }

@@ -1,7 +1,7 @@
 use Rattle.std.proofs.Common.{length, inl, inr, ap, sym, subst, arith}
 use Rattle.std.proofs.lemmas.Bool.{cases_eq, cases_lt}
 use Rattle.pie_lowering.specs.Lowering.{HoldsReaders}
-use Rattle.pie_lowering.proofs.Steps.{fallen-trans, wait-trans, holds-kept}
+use Rattle.pie_lowering.proofs.Steps.{fallen-trans, wait-trans, holds-kept, place-settled}
 use Rattle.pie_lowering.proofs.lowering.lower_mirror_readers.Goals as goal
 
 pub mirrors-preserved : goal.mirrors-preserved
@@ -25,6 +25,6 @@ returns-clause-settled g c = λ h q l.
     let owned = ap length c.owned.ensures.owned in
     let mirrors = ap length c.mirrors-2.ensures.mirrors in
     elim (cases_lt q (length c.args.part.now.owned)) [
-      | inl k ↦ inl (c.mirrors.invariant.waits.on q (h q k))
+      | inl k ↦ place-settled g.C.Cost.cost_of c.args.part.now c.args.local.now c.mirrors.local q c.mirrors.invariant.fallen.below c.mirrors.invariant.waits (h q k)
       | inr k ↦ inr (c.mirrors.invariant.held q k (omega (arith, l, c.mirrors-test.false, c.mirrors.auto.place-end, owned, mirrors)))
     ]

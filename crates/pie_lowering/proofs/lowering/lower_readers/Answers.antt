@@ -22,10 +22,13 @@ row-preserved g c =
     let inside : k < length row = c.row-test.true in
     let in_row : Contains (slice_index_or part.readers q []) r = subst (λ l. Contains l r) c.readers-reader-items.ensures.readers (Contains-get_or row k first inside) in
     let p_owned : r.place < length part.owned = c.readers-reader-items.ensures.in_range k first inside in
+    let kept = fallen-fits g.C.Cost.cost_of part c.args.local.now old so_far.fallen c.requires.fits in
+    let waiting = c.lower.ensures.local.known in
+    let known : r.place < length old.waiting = let o = kept.owned in omega (arith, waiting, o, p_owned) in
     let step : LowersOne g.C.Cost.cost_of part old (lowered_to old r.place (slice_index old.values q + g.C.Cost.cost_of r.weight)) r.place q r.weight =
-    lowers-one g.C.Cost.cost_of part old r.place q r.weight (fallen-fits g.C.Cost.cost_of part c.args.local.now old so_far.fallen c.requires.fits) in_row c.requires.place p_owned in
+    lowers-one g.C.Cost.cost_of part old r.place q r.weight (fallen-fits g.C.Cost.cost_of part c.args.local.now old so_far.fallen c.requires.fits) in_row c.requires.place p_owned known in
     let offer : value + c.cost.result ≡ slice_index old.values q + g.C.Cost.cost_of r.weight = omega (arith, so_far.value, c.cost.ensures.exact) in
-    let same : new ≡ lowered_to old r.place (slice_index old.values q + g.C.Cost.cost_of r.weight) = c.lower.ensures ∙ ap (λ n. lowered_to old r.place n) offer in
+    let same : new ≡ lowered_to old r.place (slice_index old.values q + g.C.Cost.cost_of r.weight) = c.lower.ensures.lowered ∙ ap (λ n. lowered_to old r.place n) offer in
     let moved : LowersOne g.C.Cost.cost_of part old new r.place q r.weight = subst (λ (l : LocalValues). LowersOne g.C.Cost.cost_of part old l r.place q r.weight) (sym same) step in
     record {
       fallen = fallen-trans g.C.Cost.cost_of part c.args.local.now old new so_far.fallen moved.fallen;
