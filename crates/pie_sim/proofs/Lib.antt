@@ -1,6 +1,10 @@
 pub mod Bits
 pub mod Targets
 pub mod Steps
+pub mod Counts
+pub mod Columns
+pub mod Fallen
 pub mod Mirrors
 pub mod Solved
 pub mod Distinct
+pub mod Numbers

@@ -1,14 +1,16 @@
 -- Supported values of a fragment are the local solution of a simulation.
-use Rattle.std.proofs.Common.{◌≡◌, ℕ, zero, suc, ◌<◌, inl, inr, Bool, true, ◌==◌, ◌&&◌, not, refl, sym, ◌∙◌, ap, subst, arith, List, [], ◌∷◌, ◌++◌, length, take, drop, slice_index, slice_index_or, Contains, IsTrue}
+use Rattle.std.proofs.Common.{◌≡◌, ℕ, zero, suc, ◌<◌, inl, inr, Bool, true, false, ◌==◌, ◌&&◌, not, refl, sym, ◌∙◌, ap, subst, arith, List, [], ◌∷◌, ◌++◌, length, take, drop, map, slice_index, slice_index_or, Contains, IsTrue}
 use Rattle.std.specs.List.{list_any, list_all}
 use Rattle.std.proofs.lemmas.Bool.{and_parts, and_from, or_cases, or_left, or_right, eqb-true, eq-eqb, cases_Bool, both_ways, not-true, not_from_false}
 use Rattle.std.proofs.lemmas.List.{length-map, length-append, get_or-map}
 use Rattle.std.proofs.lemmas.List.Elements.{length_all_zip, All-contains}
 use Rattle.value_order.specs.declared.order.Order.TheVariants.{Mask}
+use Rattle.value_order.specs.declared.TheConstants.{NOTHING}
 use Rattle.value_order.specs.Order.{Below}
 use Rattle.value_order.proofs.Orders.{Below-refl, Below-trans, meet-below_left}
 use Rattle.graph_core.specs.declared.fragment.Reading.{Reading}
 use Rattle.graph_core.specs.declared.pattern.PatternLink.{PatternLink}
+use Rattle.graph_core.specs.declared.pattern.PatternNode.{PatternNode}
 use Rattle.graph_core.specs.declared.query.Query.{Query}
 use Rattle.graph_core.specs.declared.query.Query.TheVariants.{Sim}
 use Rattle.graph_core.specs.declared.settings.Settings.{Settings}
@@ -19,19 +21,23 @@ use Rattle.graph_core.specs.Graphs.{label_at, IsJob}
 use Rattle.graph_core.specs.Parts.{FragmentLists, place_count}
 use Rattle.graph_core.specs.Queries.{Read, reads_of, has_bit, mask_of, has_node, link_is_met, equations_of}
 use Rattle.graph_core.specs.Fragments.{owned_of, mirrors_of, places_of, fragment_of, StandsAt}
-use Rattle.graph_core.proofs.Lists.{any_from, any_gives, all_from, all_gives}
-use Rattle.graph_core.proofs.Masks.{mask_has, mask_gives}
+use Rattle.graph_core.specs.Theorems.{ReadersAreTurnedReadings}
+use Rattle.graph_core.proofs.Lists.{contains_map, any_from, any_gives, all_from, all_gives}
+use Rattle.graph_core.proofs.Masks.{mask_has, mask_gives, mask_is_value}
 use Rattle.graph_core.proofs.Cutting.{stands_left}
+use Rattle.graph_core.proofs.Turned.{readers_turned}
 use Rattle.pie_core.specs.Locals.{LocalValues, FitsPart}
 use Rattle.pie_core.specs.Solutions.{value_at, AllBelow, OwnEquationsHold, IsLocalSolution, IsReadyFor, starts_of, met, lowered, mirrors_lowered}
 use Rattle.pie_core.proofs.Lists.{drop-same}
 use Rattle.pie_core.proofs.Starting.{few-places}
 use Rattle.pie_core.proofs.Bridge.{Reads, in_readers_row, in_readings_row, from_readings_row, value-at_place, read_stands}
-use Rattle.pie_sim.specs.SimJobs.{HasBit, targets_from, AreTargets, IsSimJob}
+use Rattle.pie_sim.specs.SimJobs.{HasBit, targets_from, AreTargets, SimValues, nodes_asked, IsSimJob}
 use Rattle.pie_sim.specs.Falling.{is_read, AreSupported, IsSettled, ReadersAreListed, LieBelow, HasFallen}
-use Rattle.pie_sim.proofs.Bits.{at_bit, from_bit, below-bit, bit-below}
+use Rattle.pie_sim.specs.Counting.{AreOfNodes}
+use Rattle.pie_sim.proofs.Bits.{zero-none, at_bit, from_bit, below-bit, bit-below}
 use Rattle.pie_sim.proofs.Targets.{leads}
 use Rattle.pie_sim.proofs.Mirrors.{lowered-length}
+use Rattle.pie_sim.proofs.Fallen.{of_nodes-below}
 
 -- ---- lists place by place
 
@@ -166,10 +172,28 @@ lowered-below (suc n) (x ∷ xs) hand (suc q) = lowered-below n xs hand q
 
 -- ---- what evaluation is given and leaves
 
+-- a start is a value
+start_is_value : (g : Digraph) (pattern : PatternGraph) (places : List ℕ) (q : ℕ) → Below Mask (slice_index (map (λ v. mask_of (λ k. has_node pattern k (label_at g v))) places) q) NOTHING
+start_is_value g pattern [] q = refl
+start_is_value g pattern (v ∷ vs) (suc q) = start_is_value g pattern vs q
+start_is_value g pattern (v ∷ vs) zero = mask_is_value (λ k. has_node pattern k (label_at g v))
+
+-- and has the bits of nodes alone
+node_of_start : (g : Digraph) (pattern : PatternGraph) (places : List ℕ) (q m : ℕ) → HasBit (slice_index (map (λ v. mask_of (λ k. has_node pattern k (label_at g v))) places) q) m → Contains (map (λ (n : PatternNode). n.number) pattern.nodes) m
+node_of_start g pattern [] q m b = absurd (let x : false ≡ true = sym (zero-none m) ∙ b in cc)
+node_of_start g pattern (v ∷ vs) (suc q) m b = node_of_start g pattern vs q m b
+node_of_start g pattern (v ∷ vs) zero m b =
+    let mask = mask_of (λ k. has_node pattern k (label_at g v)) in
+    let node = mask_gives (λ k. has_node pattern k (label_at g v)) m (at_bit mask m b) in
+    let f = any_gives (λ (n : PatternNode). (n.number == m) && (n.label == label_at g v)) pattern.nodes node.1 in
+    let n : PatternNode = f.0 in
+    let number = eqb-true n.number m (and_parts (n.number == m) (n.label == label_at g v) f.2).0 in
+    subst (λ k. Contains (map (λ (n : PatternNode). n.number) pattern.nodes) k) number (contains_map (λ (n : PatternNode). n.number) pattern.nodes n f.1)
+
 abbrev asking : Job → Query → Job
 asking job q = record { graph = job.graph; query = q; settings = job.settings }
 
-module _ (targets : List ℕ) (job : Job) (is_for : IsSimJob targets job) (part : FragmentLists) (local : LocalValues) (n : ℕ) (ready : IsReadyFor (equations_of job) job part local n) where
+module _ (sim : SimValues) (job : Job) (is_for : IsSimJob sim job) (part : FragmentLists) (local : LocalValues) (n : ℕ) (ready : IsReadyFor (equations_of job) job part local n) where
   pub ready-fits : FitsPart part local
   ready-fits =
       let values = length_all_zip (Below (equations_of job).order) local.values (starts_of (equations_of job) (part.owned ++ part.mirrors)) ready.below_start in
@@ -184,8 +208,37 @@ module _ (targets : List ℕ) (job : Job) (is_for : IsSimJob targets job) (part 
   pub ready-listed : ReadersAreListed part
   ready-listed =
       let P : Query → Type 0 = λ q. IsJob (asking job q) → part ≡ fragment_of (asking job q) part.number → ReadersAreListed part in
-      let at : P (Sim is_for.pattern) = λ is_job is_part. subst (λ p. ReadersAreListed p) (sym is_part) (fragment-listed job.graph job.settings is_for.pattern targets is_for.targets_are is_job part.number ready.number) in
+      let at : P (Sim is_for.pattern) = λ is_job is_part. subst (λ p. ReadersAreListed p) (sym is_part) (fragment-listed job.graph job.settings is_for.pattern sim.targets is_for.is_sim.targets is_job part.number ready.number) in
       subst P (sym is_for.asks) at is_for.is_job ready.is_part
+
+  pub ready-turned : ReadersAreTurnedReadings part
+  ready-turned = subst (λ p. ReadersAreTurnedReadings p) (sym ready.is_part) (readers_turned job part.number is_for.is_job ready.number)
+
+  -- the bits of the values are those of nodes
+  pub ready-of_nodes : AreOfNodes sim.nodes local.values
+  ready-of_nodes q m =
+      let pattern = is_for.pattern in
+      let places = part.owned ++ part.mirrors in
+      let P : Query → Type 0 = λ query. AllBelow (equations_of (asking job query)).order local.values (starts_of (equations_of (asking job query)) places) → HasBit (slice_index local.values q) m → Contains (map (λ (n : PatternNode). n.number) pattern.nodes) m in
+      let at : P (Sim pattern) = λ low b.
+      let e = equations_of (asking job (Sim pattern)) in
+      let starts = starts_of e places in
+      node_of_start job.graph pattern places q m (below-bit (slice_index local.values q) (slice_index starts q) m (below-at local.values starts low q) b) in
+      λ b. subst (λ ns. Contains ns m) (sym is_for.is_sim.nodes) (subst P (sym is_for.asks) at ready.below_start b)
+
+  -- and are values
+  pub ready-values : (q : ℕ) → Below Mask (slice_index local.values q) NOTHING
+  ready-values q =
+      let pattern = is_for.pattern in
+      let places = part.owned ++ part.mirrors in
+      let P : Query → Type 0 = λ query. AllBelow (equations_of (asking job query)).order local.values (starts_of (equations_of (asking job query)) places) → Below Mask (slice_index local.values q) NOTHING in
+      let at : P (Sim pattern) = λ low.
+      let starts = starts_of (equations_of (asking job (Sim pattern))) places in
+      Below-trans Mask (slice_index local.values q) (slice_index starts q) NOTHING (below-at local.values starts low q) (start_is_value job.graph pattern places q) in
+      subst P (sym is_for.asks) at ready.below_start
+
+  pub ready-width : nodes_asked job.query ≡ length sim.nodes
+  ready-width = ap nodes_asked is_for.asks ∙ sym (ap length is_for.is_sim.nodes ∙ length-map is_for.pattern.nodes (λ (n : PatternNode). n.number))
 
   pub low-start : (xs : List ℕ) → length xs ≡ length local.values → LieBelow xs local.values → AllBelow (equations_of job).order xs (starts_of (equations_of job) (part.owned ++ part.mirrors))
   low-start xs len below =
@@ -196,33 +249,37 @@ module _ (targets : List ℕ) (job : Job) (is_for : IsSimJob targets job) (part 
       below-from xs starts (omega (arith, len, k)) (λ q. Below-trans Mask (slice_index xs q) (slice_index local.values q) (slice_index starts q) (below q) (below-at local.values starts low q)) in
       subst P (sym is_for.asks) at ready.below_start
 
-  pub part-solution : (old new : LocalValues) → AllBelow (equations_of job).order old.values (starts_of (equations_of job) (part.owned ++ part.mirrors)) → HasFallen targets part old new → AreSupported targets part new.values
+  -- and so are those of values with lower mirrors
+  pub mirrors-of_nodes : (mid : LocalValues) (hand : List ℕ) → mid.values ≡ mirrors_lowered Mask part.owned local.values hand → AreOfNodes sim.nodes mid.values
+  mirrors-of_nodes mid hand values = of_nodes-below sim.nodes local.values mid.values (subst (λ xs. LieBelow xs local.values) (sym values) (lowered-below (length part.owned) local.values hand)) ready-of_nodes
+
+  pub part-solution : (old new : LocalValues) → AllBelow (equations_of job).order old.values (starts_of (equations_of job) (part.owned ++ part.mirrors)) → HasFallen sim.targets part old new → AreSupported sim.targets part new.values
       → IsLocalSolution (equations_of job) part.owned part.mirrors old.values new.values
   part-solution old new =
       let P : Query → Type 0 = λ q. IsJob (asking job q) → part ≡ fragment_of (asking job q) part.number → AllBelow (equations_of (asking job q)).order old.values (starts_of (equations_of (asking job q)) (part.owned ++ part.mirrors))
-      → HasFallen targets part old new → AreSupported targets part new.values → IsLocalSolution (equations_of (asking job q)) part.owned part.mirrors old.values new.values in
+      → HasFallen sim.targets part old new → AreSupported sim.targets part new.values → IsLocalSolution (equations_of (asking job q)) part.owned part.mirrors old.values new.values in
       let at : P (Sim is_for.pattern) = λ is_job is_part.
       let e = equations_of (asking job (Sim is_for.pattern)) in
-      let Q : FragmentLists → Type 0 = λ p. AllBelow Mask old.values (starts_of e (p.owned ++ p.mirrors)) → HasFallen targets p old new → AreSupported targets p new.values → IsLocalSolution e p.owned p.mirrors old.values new.values in
-      subst Q (sym is_part) (fallen-solution job.graph job.settings is_for.pattern targets is_for.targets_are is_job part.number ready.number old new) in
+      let Q : FragmentLists → Type 0 = λ p. AllBelow Mask old.values (starts_of e (p.owned ++ p.mirrors)) → HasFallen sim.targets p old new → AreSupported sim.targets p new.values → IsLocalSolution e p.owned p.mirrors old.values new.values in
+      subst Q (sym is_part) (fallen-solution job.graph job.settings is_for.pattern sim.targets is_for.is_sim.targets is_job part.number ready.number old new) in
       subst P (sym is_for.asks) at is_for.is_job ready.is_part
 
   -- what evaluation leaves
-  pub peval-solution : (new : LocalValues) → HasFallen targets part local new → AreSupported targets part new.values → IsLocalSolution (equations_of job) part.owned part.mirrors local.values new.values
+  pub peval-solution : (new : LocalValues) → HasFallen sim.targets part local new → AreSupported sim.targets part new.values → IsLocalSolution (equations_of job) part.owned part.mirrors local.values new.values
   peval-solution new fell supported = part-solution local new ready.below_start fell supported
 
   -- what another evaluation begins with
-  pub again-settled : OwnEquationsHold (equations_of job) part.owned part.mirrors local.values → IsSettled targets part local
+  pub again-settled : OwnEquationsHold (equations_of job) part.owned part.mirrors local.values → IsSettled sim.targets part local
   again-settled hold =
-      let P : Query → Type 0 = λ q. IsJob (asking job q) → part ≡ fragment_of (asking job q) part.number → OwnEquationsHold (equations_of (asking job q)) part.owned part.mirrors local.values → AreSupported targets part local.values in
+      let P : Query → Type 0 = λ q. IsJob (asking job q) → part ≡ fragment_of (asking job q) part.number → OwnEquationsHold (equations_of (asking job q)) part.owned part.mirrors local.values → AreSupported sim.targets part local.values in
       let at : P (Sim is_for.pattern) = λ is_job is_part.
       let e = equations_of (asking job (Sim is_for.pattern)) in
-      let Q : FragmentLists → Type 0 = λ p. OwnEquationsHold e p.owned p.mirrors local.values → AreSupported targets p local.values in
-      subst Q (sym is_part) (hold-supported job.graph job.settings is_for.pattern targets is_for.targets_are is_job part.number ready.number local.values) in
+      let Q : FragmentLists → Type 0 = λ p. OwnEquationsHold e p.owned p.mirrors local.values → AreSupported sim.targets p local.values in
+      subst Q (sym is_part) (hold-supported job.graph job.settings is_for.pattern sim.targets is_for.is_sim.targets is_job part.number ready.number local.values) in
       λ p l. inr (subst P (sym is_for.asks) at is_for.is_job ready.is_part hold p l)
 
   -- and what it leaves
-  pub inceval-solution : (mid new : LocalValues) (hand : List ℕ) → mid.values ≡ mirrors_lowered Mask part.owned local.values hand → HasFallen targets part mid new → AreSupported targets part new.values
+  pub inceval-solution : (mid new : LocalValues) (hand : List ℕ) → mid.values ≡ mirrors_lowered Mask part.owned local.values hand → HasFallen sim.targets part mid new → AreSupported sim.targets part new.values
       → IsLocalSolution (equations_of job) part.owned part.mirrors (lowered (equations_of job) part.owned local.values hand) new.values
   inceval-solution mid new hand values fell supported =
       let n = length part.owned in

@@ -3,7 +3,7 @@ use Rattle.std.proofs.Common.{◌≡◌, ◌≢◌, ℕ, zero, suc, ◌+◌, ◌
 use Rattle.std.specs.Prelude.{slice_set}
 use Rattle.std.proofs.lemmas.Bool.{cases_eq}
 use Rattle.std.proofs.lemmas.List.{get_or-set_same, get_or-set_other, length-set, set-get_or}
-use Rattle.std.proofs.lemmas.List.Sums.{sum_by-set}
+use Rattle.std.proofs.lemmas.List.Sums.{sum_by-set, count_by-le-length}
 use Rattle.value_order.specs.declared.order.Order.TheVariants.{Mask}
 use Rattle.value_order.specs.Order.{Below}
 use Rattle.value_order.proofs.Orders.{Below-refl, Below-eq, Below-trans, height-lt}
@@ -11,13 +11,23 @@ use Rattle.graph_core.specs.declared.fragment.Reading.{Reading}
 use Rattle.graph_core.specs.Parts.{FragmentLists}
 use Rattle.graph_core.specs.Queries.{has_bit}
 use Rattle.graph_core.proofs.Lists.{any_from, any_gives}
-use Rattle.pie_core.specs.PlaceSets.{waits}
+use Rattle.pie_core.specs.PlaceSets.{waits, how_many}
 use Rattle.pie_core.specs.Locals.{LocalValues, FitsPart}
-use Rattle.pie_core.specs.LocalCalls.{with_value, TakesOldest}
-use Rattle.pie_core.proofs.Places.{still_waits}
+use Rattle.pie_core.specs.LocalCalls.{TakesOne}
 use Rattle.pie_sim.specs.SimJobs.{HasBit}
 use Rattle.pie_sim.specs.Falling.{is_read, IsSupported, AreSupported, IsSettled, IsSettledBut, ReadersAreListed, ReadersWait, work_left, HasLowered, HasFallen}
 use Rattle.pie_sim.proofs.Bits.{below-bit, bit-below}
+
+-- ---- who waits
+
+pub waits_on : (waiting : List Bool) (p q : ℕ) → p < length waiting → waits waiting q ≡ true → waits (slice_set waiting p true) q ≡ true
+waits_on waiting p q inside h = elim (cases_eq q p) [
+  | inl e ↦ ap (λ i. waits (slice_set waiting p true) i) e ∙ get_or-set_same waiting p true false inside
+  | inr d ↦ get_or-set_other waiting p q true false d ∙ h
+]
+
+pub waits_new : (waiting : List Bool) (p : ℕ) → p < length waiting → waits (slice_set waiting p true) p ≡ true
+waits_new waiting p inside = get_or-set_same waiting p true false inside
 
 -- ---- one place gets a lower value
 
@@ -27,7 +37,7 @@ lowered-same part old place value e = record {
   before = refl;
   counters = refl;
   on = λ q h. h;
-  readers = inl e;
+  readers = λ q m l t. inr t;
   no_more = omega arith;
 }
 
@@ -39,21 +49,23 @@ less_left (suc s) zero b w h l = absurd (omega (arith, h))
 less_left (suc s) (suc t) b w h l = omega (arith, less_left s t b w (omega (arith, h)) l)
 
 pub lowered-other : (part : FragmentLists) (old new : LocalValues) (place value : ℕ) → place < length old.values → value ≢ slice_index old.values place → Below Mask value (slice_index old.values place) →
-    new ≡ record (with_value old place value) { waiting = new.waiting } → ((q : ℕ) → waits old.waiting q ≡ true → waits new.waiting q ≡ true) → ReadersWait part new place → length new.waiting ≤ length new.before → HasLowered part old new place value
-lowered-other part old new place value inside other below rest on readers few =
-    let values : new.values ≡ slice_set old.values place value = ap (λ (l : LocalValues). l.values) rest in
-    let before : new.before ≡ old.before = ap (λ (l : LocalValues). l.before) rest in
+    new.values ≡ slice_set old.values place value → new.before ≡ old.before → length new.counters ≡ length old.counters → length new.waiting ≡ length old.before →
+    ((q : ℕ) → waits old.waiting q ≡ true → waits new.waiting q ≡ true) →
+    ((q m : ℕ) → q < length part.owned → IsTrue (is_read (slice_index_or part.readings q []) old.values m) → (waits new.waiting q ≡ true) ⊎ IsTrue (is_read (slice_index_or part.readings q []) new.values m)) →
+    HasLowered part old new place value
+lowered-other part old new place value inside other below values before room known on readers =
     let more = sum_by-set count_ones old.values place value 0 inside in
     let fewer = height-lt Mask value (slice_index old.values place) below other in
     let same = ap (sum_by count_ones) values in
-    let left = less_left (sum_by count_ones new.values) (sum_by count_ones old.values) (length new.before) (length new.waiting) (omega (arith, more, fewer, same)) few in
+    let few = count_by-le-length (λ (b : Bool). b) new.waiting in
+    let left = less_left (sum_by count_ones new.values) (sum_by count_ones old.values) (length new.before) (how_many new.waiting) (omega (arith, more, fewer, same)) (omega (arith, few, known, ap length before)) in
     let same_before = ap (λ bs. sum_by count_ones old.values * (length bs + 1)) before in
     record {
       values = values;
       before = before;
-      counters = ap (λ (l : LocalValues). l.counters) rest;
+      counters = room;
       on = on;
-      readers = inr readers;
+      readers = readers;
       no_more = omega (arith, left, same_before);
     }
 
@@ -72,18 +84,30 @@ fallen-trans targets part a b c h k = record {
   above = λ ys s l. k.above ys s (h.above ys s l);
 }
 
--- the same values and sizes, whoever waits
-pub fallen-same : (targets : List ℕ) (part : FragmentLists) (a b : LocalValues) → b ≡ record a { waiting = b.waiting } → HasFallen targets part a b
-fallen-same targets part a b e =
+-- the same values and sizes, whoever waits and whatever is counted
+pub fallen-same : (targets : List ℕ) (part : FragmentLists) (a b : LocalValues) → b ≡ record a { counters = b.counters; waiting = b.waiting } → length b.counters ≡ length a.counters → HasFallen targets part a b
+fallen-same targets part a b e room =
     let v : b.values ≡ a.values = ap (λ (l : LocalValues). l.values) e in
     record {
       places = ap length v;
       before = ap (λ (l : LocalValues). l.before) e;
-      counters = ap (λ (l : LocalValues). l.counters) e;
+      counters = room;
       below = λ q. Below-eq Mask (slice_index b.values q) (slice_index a.values q) (ap (λ xs. slice_index xs q) v);
       mirrors = λ q h. ap (λ xs. slice_index xs q) v;
       above = λ ys s h q. subst (λ xs. Below Mask (slice_index ys q) (slice_index xs q)) (sym v) (h q);
     }
+
+pub fallen-taken : (targets : List ℕ) (part : FragmentLists) (a b : LocalValues) (place : ℕ) → TakesOne a (Some place) b → HasFallen targets part a b
+fallen-taken targets part a b place taken =
+    let counters : b.counters ≡ a.counters = ap (λ (l : LocalValues). l.counters) taken.1 in
+    let waiting : b.waiting ≡ slice_set a.waiting place false = ap (λ (l : LocalValues). l.waiting) taken.1 in
+    fallen-same targets part a b
+    (taken.1 ∙ ap (λ ws. let x : LocalValues = record a { waiting = ws } in x) (sym waiting) ∙ ap (λ cs. let x : LocalValues = record a { counters = cs; waiting = b.waiting } in x) (sym counters))
+    (ap length counters)
+
+pub fallen-step : (targets : List ℕ) (part : FragmentLists) (start old mid new : LocalValues) (place : ℕ) → HasFallen targets part start old → TakesOne old (Some place) mid → HasFallen targets part mid new → HasFallen targets part start new
+fallen-step targets part start old mid new place so_far taken step =
+    fallen-trans targets part start old new so_far (fallen-trans targets part old mid new (fallen-taken targets part old mid place taken) step)
 
 pub fallen-fits : (targets : List ℕ) (part : FragmentLists) (a b : LocalValues) → HasFallen targets part a b → FitsPart part a → FitsPart part b
 fallen-fits targets part a b h f = record { few = f.few; places = h.places ∙ f.places; owned = ap length h.before ∙ f.owned }
@@ -97,6 +121,24 @@ read-below row xs ys m h t =
 
 -- ---- a place is tested
 
+-- a place that doesn't wait reads the same as before, where all readers of the place that fell wait
+module _ (part : FragmentLists) (old new : LocalValues) (place value : ℕ) (values : new.values ≡ slice_set old.values place value) (listed : ReadersAreListed part) (wait : ReadersWait part new place) where
+  same_row : (q : ℕ) → q < length part.owned → waits new.waiting q ≡ false → (r : Reading) → Contains (slice_index_or part.readings q []) r → slice_index new.values r.place ≡ slice_index old.values r.place
+  same_row q l none r c = elim (cases_eq r.place place) [
+    | inr d ↦ ap (λ xs. slice_index xs r.place) values ∙ get_or-set_other old.values place r.place value 0 d
+    | inl e ↦
+        let there = subst (λ u. Contains (slice_index_or part.readers u []) (record { place = q; weight = r.weight })) e (listed q r l c) in
+        let on = wait (record { place = q; weight = r.weight }) there in
+        absurd (let x : false ≡ true = sym none ∙ on in cc)
+  ]
+
+  pub listed-readers : (q m : ℕ) → q < length part.owned → IsTrue (is_read (slice_index_or part.readings q []) old.values m) → (waits new.waiting q ≡ true) ⊎ IsTrue (is_read (slice_index_or part.readings q []) new.values m)
+  listed-readers q m l t = go (waits new.waiting q) refl
+    where
+      go : (c : Bool) → waits new.waiting q ≡ c → (waits new.waiting q ≡ true) ⊎ IsTrue (is_read (slice_index_or part.readings q []) new.values m)
+      go true e = inl e
+      go false e = inr (read-below (slice_index_or part.readings q []) old.values new.values m (λ r c b. subst (λ n. HasBit n m) (sym (same_row q l e r c)) b) t)
+
 module _ (targets : List ℕ) (part : FragmentLists) (old new : LocalValues) (place value : ℕ) (h : HasLowered part old new place value) (inside : place < length old.values) where
   at_place : slice_index new.values place ≡ value
   at_place = ap (λ xs. slice_index xs place) h.values ∙ get_or-set_same old.values place value 0 inside
@@ -108,34 +150,24 @@ module _ (targets : List ℕ) (part : FragmentLists) (old new : LocalValues) (pl
   abbrev pub StayWhereRead : Type 0
   StayWhereRead = (k m : ℕ) → HasBit value k → HasBit (slice_index targets k) m → IsTrue (is_read (slice_index_or part.readings place []) old.values m)
 
-  -- a place that doesn't wait reads the same as before
-  same_row : ReadersAreListed part → (q : ℕ) → q < length part.owned → waits new.waiting q ≡ false → (r : Reading) → Contains (slice_index_or part.readings q []) r → slice_index new.values r.place ≡ slice_index old.values r.place
-  same_row listed q l none r c = elim (cases_eq r.place place) [
-    | inr d ↦ elsewhere r.place d
-    | inl e ↦ elim h.readers [
-      | inl same ↦ ap (slice_index new.values) e ∙ at_place ∙ same ∙ sym (ap (slice_index old.values) e)
-      | inr readers ↦
-          let there = subst (λ u. Contains (slice_index_or part.readers u []) (record { place = q; weight = r.weight })) e (listed q r l c) in
-          let on = readers (record { place = q; weight = r.weight }) there in
-          absurd (let x : false ≡ true = sym none ∙ on in cc)
-    ]
+  read_again : (q : ℕ) → q < length part.owned → waits new.waiting q ≡ false → (m : ℕ) → IsTrue (is_read (slice_index_or part.readings q []) old.values m) → IsTrue (is_read (slice_index_or part.readings q []) new.values m)
+  read_again q l none m t = elim (h.readers q m l t) [
+    | inl on ↦ absurd (let x : false ≡ true = sym none ∙ on in cc)
+    | inr again ↦ again
   ]
 
-  read_again : ReadersAreListed part → (q : ℕ) → q < length part.owned → waits new.waiting q ≡ false → (m : ℕ) → IsTrue (is_read (slice_index_or part.readings q []) old.values m) → IsTrue (is_read (slice_index_or part.readings q []) new.values m)
-  read_again listed q l none m t = read-below (slice_index_or part.readings q []) old.values new.values m (λ r c b. subst (λ n. HasBit n m) (sym (same_row listed q l none r c)) b) t
-
-  pub tested-settled : ReadersAreListed part → (place < length part.owned → StayWhereRead) → IsSettledBut place targets part old → IsSettled targets part new
-  tested-settled listed own but q l = go (waits new.waiting q) refl
+  pub tested-settled : (place < length part.owned → StayWhereRead) → IsSettledBut place targets part old → IsSettled targets part new
+  tested-settled own but q l = go (waits new.waiting q) refl
     where
       go : (c : Bool) → waits new.waiting q ≡ c → (waits new.waiting q ≡ true) ⊎ IsSupported targets part new.values q
       go true e = inl e
       go false e = inr (λ k m b t. elim (cases_eq q place) [
         | inl same ↦
             let here = own (subst (λ u. u < length part.owned) same l) k m (subst (λ n. HasBit n k) (ap (slice_index new.values) same ∙ at_place) b) t in
-            read_again listed q l e m (subst (λ u. IsTrue (is_read (slice_index_or part.readings u []) old.values m)) (sym same) here)
+            read_again q l e m (subst (λ u. IsTrue (is_read (slice_index_or part.readings u []) old.values m)) (sym same) here)
         | inr d ↦ elim (but q l d) [
           | inl w ↦ absurd (let x : false ≡ true = sym e ∙ h.on q w in cc)
-          | inr s ↦ read_again listed q l e m (s k m (subst (λ n. HasBit n k) (elsewhere q d) b) t)
+          | inr s ↦ read_again q l e m (s k m (subst (λ n. HasBit n k) (elsewhere q d) b) t)
         ]
       ])
 
@@ -162,20 +194,19 @@ module _ (targets : List ℕ) (part : FragmentLists) (old new : LocalValues) (pl
 
 -- ---- a place is taken from the list
 
-pub popped-settled : (targets : List ℕ) (part : FragmentLists) (old mid : LocalValues) (place : ℕ) → TakesOldest old (Some place) mid → IsSettled targets part old → IsSettledBut place targets part mid
+pub popped-settled : (targets : List ℕ) (part : FragmentLists) (old mid : LocalValues) (place : ℕ) → TakesOne old (Some place) mid → IsSettled targets part old → IsSettledBut place targets part mid
 popped-settled targets part old mid place taken h q l d = elim (h q l) [
-  | inl w ↦ inl (still_waits mid.waiting place q d (subst (λ ws. waits ws q ≡ true) taken.0 w))
+  | inl w ↦ inl (ap (λ (x : LocalValues). waits x.waiting q) taken.1 ∙ get_or-set_other old.waiting place q false false d ∙ w)
   | inr s ↦ inr (subst (λ xs. IsSupported targets part xs q) (sym (ap (λ (x : LocalValues). x.values) taken.1)) s)
 ]
 
-pub popped-less : (old mid new : LocalValues) (place : ℕ) → TakesOldest old (Some place) mid → work_left new ≤ work_left mid → work_left new < work_left old
-popped-less old mid new place taken no_more =
+pub popped-less : (old mid new : LocalValues) (place : ℕ) → TakesOne old (Some place) mid → how_many mid.waiting + 1 ≡ how_many old.waiting → work_left new ≤ work_left mid → work_left new < work_left old
+popped-less old mid new place taken fewer no_more =
     let same : sum_by count_ones mid.values * (length mid.before + 1) ≡ sum_by count_ones old.values * (length old.before + 1) = ap (λ (x : LocalValues). sum_by count_ones x.values * (length x.before + 1)) taken.1 in
-    let n = ap length taken.0 in
-    omega (arith, no_more, same, n)
+    omega (arith, no_more, same, fewer)
 
-pub none-supported : (targets : List ℕ) (part : FragmentLists) (local : LocalValues) → local.waiting ≡ [] → IsSettled targets part local → AreSupported targets part local.values
+pub none-supported : (targets : List ℕ) (part : FragmentLists) (local : LocalValues) → ((place : ℕ) → waits local.waiting place ≡ false) → IsSettled targets part local → AreSupported targets part local.values
 none-supported targets part local none h p l = elim (h p l) [
-  | inl w ↦ absurd (let x : false ≡ true = subst (λ ws. waits ws p ≡ true) none w in cc)
+  | inl w ↦ absurd (let x : false ≡ true = sym (none p) ∙ w in cc)
   | inr s ↦ s
 ]

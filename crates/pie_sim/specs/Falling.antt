@@ -1,12 +1,12 @@
 -- Values of a fragment on their way down to the local solution of a simulation.
-use Rattle.std.specs.Prelude.{◌≡◌, ◌≢◌, ℕ, ◌+◌, ◌*◌, ◌<◌, ◌≤◌, ◌⊎◌, Bool, true, List, [], length, slice_index, slice_index_or, slice_set, Contains, IsTrue, sum_by, count_ones}
+use Rattle.std.specs.Prelude.{◌≡◌, ◌≢◌, ℕ, ◌+◌, ◌*◌, ◌<◌, ◌≤◌, ◌⊎◌, Bool, true, List, [], length, slice_index, slice_index_or, slice_set, Contains, IsTrue, sum_by, count_by, count_ones}
 use Rattle.std.specs.List.{list_any}
 use Rattle.value_order.specs.declared.order.Order.TheVariants.{Mask}
 use Rattle.value_order.specs.Order.{Below}
 use Rattle.graph_core.specs.declared.fragment.Reading.{Reading}
 use Rattle.graph_core.specs.Parts.{FragmentLists}
 use Rattle.graph_core.specs.Queries.{has_bit}
-use Rattle.pie_core.specs.PlaceSets.{waits}
+use Rattle.pie_core.specs.PlaceSets.{waits, how_many}
 use Rattle.pie_core.specs.Locals.{LocalValues}
 use Rattle.pie_sim.specs.SimJobs.{HasBit}
 
@@ -40,15 +40,16 @@ ReadersWait part local place = (r : Reading) → Contains (slice_index_or part.r
 
 -- what is left to do at most: a value that loses a bit makes at most all owned places wait
 abbrev pub work_left : LocalValues → ℕ
-work_left local = sum_by count_ones local.values * (length local.before + 1) + length local.waiting
+work_left local = sum_by count_ones local.values * (length local.before + 1) + how_many local.waiting
 
--- One place got this value. Where it is another one, all readers of the place wait. Who waited waits on, and there is no more to do.
+-- One place got this value. An owned place that read a bit before and reads it no more waits. Who waited waits on, and there is no more to do.
 pub record HasLowered (part : FragmentLists) (old new : LocalValues) (place value : ℕ) : Type 0 where
   pub values : new.values ≡ slice_set old.values place value
   pub before : new.before ≡ old.before
-  pub counters : new.counters ≡ old.counters
+  pub counters : length new.counters ≡ length old.counters
   pub on : (q : ℕ) → waits old.waiting q ≡ true → waits new.waiting q ≡ true
-  pub readers : (value ≡ slice_index old.values place) ⊎ ReadersWait part new place
+  pub readers : (q m : ℕ) → q < length part.owned → IsTrue (is_read (slice_index_or part.readings q []) old.values m) →
+      (waits new.waiting q ≡ true) ⊎ IsTrue (is_read (slice_index_or part.readings q []) new.values m)
   pub no_more : work_left new ≤ work_left old
 
 abbrev pub LieBelow : List ℕ → List ℕ → Type 0
@@ -58,7 +59,7 @@ LieBelow ys xs = (q : ℕ) → Below Mask (slice_index ys q) (slice_index xs q)
 pub record HasFallen (targets : List ℕ) (part : FragmentLists) (old new : LocalValues) : Type 0 where
   pub places : length new.values ≡ length old.values
   pub before : new.before ≡ old.before
-  pub counters : new.counters ≡ old.counters
+  pub counters : length new.counters ≡ length old.counters
   pub below : LieBelow new.values old.values
   pub mirrors : (q : ℕ) → length part.owned ≤ q → slice_index new.values q ≡ slice_index old.values q
   pub above : (ys : List ℕ) → AreSupported targets part ys → LieBelow ys old.values → LieBelow ys new.values

@@ -1,4 +1,5 @@
 pub mod SimJobs
 pub mod Falling
+pub mod Counting
 pub mod Laws
 pub mod Worked

@@ -66,3 +66,68 @@ pub fn generated(alloc: Global, number: u64) -> Result<Graph, NoMemory>
     let vertices = [(0, 1), (1, 2), (2, 1), (3, 2), (4, 1), (5, 2), (6, 3)];
     Graph::build(alloc, &vertices, &edges)
 }
+
+/// Vertices with the label 7: a path from 2 to 7, and vertex 1, which leads to each of the path twice.
+pub fn hub_of_a_path(alloc: Global) -> Result<Graph, NoMemory>
+    ensures { IfOk result IsGraph }
+{
+    Graph::build(
+        alloc,
+        &[(1, 7), (2, 7), (3, 7), (4, 7), (5, 7), (6, 7), (7, 7)],
+        &[
+            edge(1, 2, 1),
+            edge(1, 2, 1),
+            edge(1, 3, 1),
+            edge(1, 3, 2),
+            edge(1, 4, 1),
+            edge(1, 4, 1),
+            edge(1, 5, 1),
+            edge(1, 5, 2),
+            edge(1, 6, 1),
+            edge(1, 6, 1),
+            edge(1, 7, 1),
+            edge(1, 7, 1),
+            edge(2, 3, 1),
+            edge(3, 4, 1),
+            edge(4, 5, 1),
+            edge(5, 6, 1),
+            edge(6, 7, 1),
+        ],
+    )
+}
+
+/// A grid of three rows of three vertices with the labels 1 and 2 in turn, whose edges lead right and down, and one
+/// from 3 back to 2.
+pub fn grid(alloc: Global) -> Result<Graph, NoMemory>
+    ensures { IfOk result IsGraph }
+{
+    Graph::build(
+        alloc,
+        &[
+            (1, 1),
+            (2, 2),
+            (3, 1),
+            (4, 2),
+            (5, 1),
+            (6, 2),
+            (7, 1),
+            (8, 2),
+            (9, 1),
+        ],
+        &[
+            edge(1, 2, 1),
+            edge(2, 3, 1),
+            edge(4, 5, 1),
+            edge(5, 6, 1),
+            edge(7, 8, 1),
+            edge(8, 9, 1),
+            edge(1, 4, 1),
+            edge(4, 7, 1),
+            edge(2, 5, 1),
+            edge(5, 8, 1),
+            edge(3, 6, 1),
+            edge(6, 9, 1),
+            edge(3, 2, 1),
+        ],
+    )
+}

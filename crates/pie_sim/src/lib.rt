@@ -8,8 +8,11 @@
 //! refinement, as of Henzinger, Henzinger and Kopke, FOCS 1995, from a queue.)
 #![tactic(auto)]
 
+mod counted;
+mod counting;
 mod laws;
 mod lowering;
+mod nodes;
 mod sim;
 mod worked;
 

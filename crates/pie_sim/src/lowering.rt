@@ -1,5 +1,6 @@
-ghost use Rattle.std.specs.Prelude.{◌≡◌, ℕ, ◌<◌, ◌≤◌, true, List, length, slice_index, slice_index_or, []};
+ghost use Rattle.std.specs.Prelude.{◌≡◌, ℕ, ◌<◌, true, List, length, slice_index, slice_index_or, []};
 ghost use Rattle.value_order.specs.declared.order.Order.TheVariants.{Mask};
+ghost use Rattle.value_order.specs.declared.TheConstants.{NOTHING};
 ghost use Rattle.value_order.specs.Order.{Below};
 ghost use Rattle.graph_core.specs.Parts.{place_count};
 ghost use Rattle.graph_core.specs.Queries.{has_bit};
@@ -16,11 +17,11 @@ use pie_core::Local;
 fn list_readers(part: &Fragment, local: &mut Local, place: u32)
     requires place { place < place_count part.now }
     requires owned { length local.old.before ≡ length part.now.owned }
-    requires few { length local.old.waiting ≤ length local.old.before }
+    requires known { length local.old.waiting ≡ length local.old.before }
     ensures rest { local.new ≡ record local.old { waiting = local.new.waiting } }
     ensures on { (q : ℕ) → waits local.old.waiting q ≡ true → waits local.new.waiting q ≡ true }
     ensures readers { ReadersWait part.now local.new place }
-    ensures few { length local.new.waiting ≤ length local.new.before }
+    ensures known { length local.new.waiting ≡ length local.old.waiting }
 {
     'row: for reader in part.readers(place) {
         local.enqueue(reader.place);
@@ -31,8 +32,10 @@ fn list_readers(part: &Fragment, local: &mut Local, place: u32)
 pub fn lower(part: &Fragment, local: &mut Local, place: u32, value: u64)
     requires place { place < place_count part.now }
     requires fits { FitsPart part.now local.old }
+    requires listed { ReadersAreListed part.now }
     requires below { Below Mask value (slice_index local.old.values place) }
-    ensures { HasLowered part.now local.old local.new place value }
+    ensures lowered { HasLowered part.now local.old local.new place value }
+    ensures counters { local.new.counters ≡ local.old.counters }
 {
     if value != local.values()[place as usize] {
         local.set(place, value);
@@ -53,9 +56,11 @@ pub fn read_bits(part: &Fragment, values: &[u64], place: u32) -> u64
     bits
 }
 
-/// Lowers each mirror by the hand, and lists the readers of each that fell.
+/// Lowers each mirror by the hand, and lists the readers of each that fell. It looks at no mirror for which no message
+/// came.
 pub fn lower_mirrors(part: &Fragment, local: &mut Local, hand: &Hand)
     requires fits { FitsPart part.now local.old }
+    requires values { (q : ℕ) → Below Mask (slice_index local.old.values q) NOTHING }
     requires listed { ReadersAreListed part.now }
     requires hand { length hand.now.values ≡ length part.now.mirrors }
     ensures values { local.new.values ≡ mirrors_lowered Mask part.now.owned local.old.values hand.now.values }
@@ -64,9 +69,9 @@ pub fn lower_mirrors(part: &Fragment, local: &mut Local, hand: &Hand)
     ensures settled { (targets : List ℕ) → IsSettled targets part.now local.old → IsSettled targets part.now local.new }
 {
     let owned = part.owned().len();
-    'hand: for (mirror, value) in hand.values().iter().enumerate() {
-        let place = owned + mirror;
-        let met = local.values()[place] & *value;
+    'hand: for mirror in hand.mirrors() {
+        let place = owned + *mirror as usize;
+        let met = local.values()[place] & hand.values()[*mirror as usize];
         lower(part, local, place as u32, met);
     }
 }

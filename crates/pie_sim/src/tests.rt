@@ -1,7 +1,9 @@
 ghost use Rattle.std.specs.Prelude.{◌≡◌};
 
 use crate::compared::{compare_all, expect_values};
-use crate::graphs::{closed_cycle, fork, generated, open_cycle, row_and_loop};
+use crate::graphs::{
+    closed_cycle, fork, generated, grid, hub_of_a_path, open_cycle, row_and_loop,
+};
 use crate::patterns::{all_nodes, chain};
 use graph_core::{Cut, PatternLink, PatternNode};
 use std::test::Fail;
@@ -93,6 +95,50 @@ fn takes_all_64_nodes(rt: HostRuntime) -> Result<(), Fail> {
     for fragments in 1..4 {
         let graph = row_and_loop(rt.alloc())?;
         compare_all(&rt, rt.alloc(), graph, asked, fragments, Cut::Hash, 1 << 63)?;
+    }
+    Ok(())
+}
+
+#[test]
+fn falls_along_a_path_that_a_hub_reads(rt: HostRuntime) -> Result<(), Fail> {
+    let nodes = [node(5, 7), node(9, 7)];
+    let links = [link(5, 5), link(9, 5)];
+    let asked = (nodes.as_slice(), links.as_slice());
+    let graph = hub_of_a_path(rt.alloc())?;
+    expect_values(
+        &rt,
+        rt.alloc(),
+        graph,
+        asked,
+        [0, 0, 0, 0, 0, 0, 0].as_slice(),
+    )?;
+    for fragments in 1..4 {
+        let by_range = hub_of_a_path(rt.alloc())?;
+        compare_all(&rt, rt.alloc(), by_range, asked, fragments, Cut::Range, 512)?;
+        let by_hash = hub_of_a_path(rt.alloc())?;
+        compare_all(&rt, rt.alloc(), by_hash, asked, fragments, Cut::Hash, 32)?;
+    }
+    Ok(())
+}
+
+#[test]
+fn falls_over_a_grid(rt: HostRuntime) -> Result<(), Fail> {
+    let nodes = [node(0, 1), node(1, 2)];
+    let links = [link(0, 1), link(1, 0)];
+    let asked = (nodes.as_slice(), links.as_slice());
+    let graph = grid(rt.alloc())?;
+    expect_values(
+        &rt,
+        rt.alloc(),
+        graph,
+        asked,
+        [1, 2, 1, 0, 0, 0, 0, 0, 0].as_slice(),
+    )?;
+    for fragments in 1..4 {
+        let by_range = grid(rt.alloc())?;
+        compare_all(&rt, rt.alloc(), by_range, asked, fragments, Cut::Range, 1)?;
+        let by_hash = grid(rt.alloc())?;
+        compare_all(&rt, rt.alloc(), by_hash, asked, fragments, Cut::Hash, 2)?;
     }
     Ok(())
 }

@@ -1,25 +1,19 @@
-use Rattle.std.proofs.Common.{rules, arith, ◌≡◌, ◌<◌, ◌*◌, ◌%◌, ◌^◌, bit_or, slice_index_or, sym, ◌∙◌, ap, subst, [], List, replicate}
-use Rattle.std.specs.Prelude.{slice_set}
+use Rattle.std.proofs.Common.{◌≡◌, ◌<◌, ◌≤◌, sym, ◌∙◌, ap, subst, arith, length, map, List, ℕ}
 use Rattle.std.specs.List.{All}
-use Rattle.std.proofs.lemmas.List.{get_or_default}
-use Rattle.graph_core.specs.declared.pattern.PatternLink.{PatternLink}
+use Rattle.graph_core.specs.declared.pattern.PatternNode.{PatternNode}
 use Rattle.graph_core.specs.PatternGraph.{PatternGraph}
-use Rattle.pie_sim.specs.SimJobs.{AreTargets}
-use Rattle.pie_sim.proofs.Targets.{targets-none, targets-more}
+use Rattle.pie_sim.proofs.Numbers.{small_numbers, few_numbers}
 use Rattle.pie_sim.proofs.sim.Sim.new.Goals as goal
 
-pub links-init : goal.links-init
-links-init c = let zeros : c.in_ok-targets.targets.items ≡ replicate 64 0 = search rules in subst (λ xs. AreTargets xs []) (sym zeros) targets-none
-
-pub links-preserved : goal.links-preserved
-links-preserved c =
-    let links = c.deref-link-items.result.now in
-    let i = c.links.link-index in
-    let none : PatternLink = record { from = 0; to = 0 } in
-    let same = c.deref-link-items.ensures.value ∙ ap (λ (p : PatternGraph). p.links) c.pattern.view_is in
-    let small = subst (λ (ls : List PatternLink). All (λ link. (link.from < 64) × (link.to < 64)) ls) (sym same) c.requires.links in
-    let here = small i none c.links-test.true in
-    let from = (slice_index_or links i none).from in
-    let targets = c.links.targets.items in
-    let value = c.index_mut.ensures.value ∙ get_or_default targets from c.index_mut.result.now 0 (omega (arith, here.0, c.links.invariant.nodes)) in
-    targets-more links i none c.links-test.true targets _ here.0 here.1 (ap (λ n. slice_set targets from (bit_or n (1 * 2 ^ (slice_index_or links i none).to % 2 ^ 64))) value) c.links.invariant
+pub invariant_of-result : goal.invariant_of-result
+invariant_of-result c =
+    let pattern = c.args.pattern.now in
+    let numbers : c.in_ok-nodes.nodes.items ≡ map (λ (node : PatternNode). node.number) pattern.nodes =
+    c.in_ok-nodes.ensures ∙ ap (map (λ (node : PatternNode). node.number)) (c.deref-2.ensures.value ∙ ap (λ (p : PatternGraph). p.nodes) c.pattern.view_is) in
+    let targets = c.in_ok-targets.ensures.nodes in
+    let len = ap length numbers in
+    (
+      omega (arith, targets, c.in_ok-targets.targets.ok),
+      omega (arith, len, few_numbers pattern c.requires, c.in_ok-nodes.nodes.ok),
+      subst (λ ns. All (λ n. n < 64) ns) (sym numbers) (small_numbers pattern c.requires),
+    )
