@@ -1,3 +1,4 @@
 pub mod Events
 pub mod JournalList
 pub mod Journals
+pub mod Packing
