@@ -27,7 +27,10 @@ pub cut_of-requires-clause-places : goal.cut_of-requires-clause-places
 cut_of-requires-clause-places g c = all_few c.args.job.now c.requires.job c.args.fragments.now c.requires.fragments
 
 pub invariant_of-result : goal.invariant_of-result
-invariant_of-result g c =
+invariant_of-result g c = c.journal.invariant
+
+pub invariant_of-result-2 : goal.invariant_of-result-2
+invariant_of-result-2 g c =
     let job = c.args.job.now in
     let fragments = c.args.fragments.now in
     let start = start_view c.start.inside in
@@ -51,4 +54,4 @@ invariant_of-result g c =
     (kept.0, kept.1, kept.2, c.in_ok-with_capacity.ensures.items, omega (arith, many, same, places))
 
 pub returns-clause-hub : goal.returns-clause-hub
-returns-clause-hub g c = (invariant_of-result g c).1
+returns-clause-hub g c = (invariant_of-result-2 g c).1
