@@ -5,7 +5,7 @@ ghost use Rattle.fragment_cut.specs.Filing.{table, rows_under, reading_of, Filed
 
 use crate::filing::Filed;
 use grape_port::NoMemory;
-use graph_core::{Reading, Rows};
+use graph_core::{Reading, Rows, sort_in_groups};
 use std::alloc::Global;
 
 /// The readings by themselves, in the same order.
@@ -61,6 +61,6 @@ pub fn table_of(alloc: Global, filed: &mut [Filed], rows: u32) -> Result<Rows<Re
     requires { All (λ entry. entry.row < rows) filed.old }
     ensures { IfOk result (λ made. made ≡ table filed.old rows) }
 {
-    filed.sort_unstable();
+    sort_in_groups(filed);
     rows_of(alloc, filed, rows)
 }

@@ -33,6 +33,7 @@ pub use pattern::{Pattern, PatternLink, PatternNode};
 pub use query::Query;
 pub use row_table::Rows;
 pub use settings::{Cut, Policy, Settings};
+pub use sorting::{Grouped, sort_in_groups};
 pub use worked::{row_values, rows};
 
 /// The distance of a vertex that no walk leads to, 2^52: every distance along a walk is smaller.

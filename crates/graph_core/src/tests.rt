@@ -1,7 +1,7 @@
 ghost use Rattle.std.specs.Prelude.{◌≡◌};
 
 use super::*;
-use crate::sorting::sort_by_groups;
+use crate::sorting::group_and_sort;
 use grape_port::NoMemory;
 use std::alloc::Global;
 use std::test::Fail;
@@ -64,7 +64,9 @@ fn drawn(alloc: Global, bound: u32, step: u32) -> Result<Vec<Edge>, NoMemory> {
     let mut edges = Vec::with_capacity(alloc, 3000)?;
     let mut state: u64 = 7;
     for _ in 0..3000 {
-        state = state.wrapping_mul(6_364_136_223_846_793_005).wrapping_add(1);
+        state = state
+            .wrapping_mul(6_364_136_223_846_793_005)
+            .wrapping_add(1);
         let number = (state >> 32) as u32 % bound.max(1);
         edges.push(edge(number.wrapping_mul(step), (state >> 62) as u32, 1))?;
     }
@@ -74,10 +76,17 @@ fn drawn(alloc: Global, bound: u32, step: u32) -> Result<Vec<Edge>, NoMemory> {
 #[test]
 fn groups_bring_edges_into_order(rt: HostRuntime) -> Result<(), Fail> {
     // few beginnings and many, without gaps and spread over all numbers
-    let table = [(1, 1), (3, 1), (1000, 1), (4000, 1), (4000, 1_000_003), (1_000_000_000, 4)];
+    let table = [
+        (1, 1),
+        (3, 1),
+        (1000, 1),
+        (4000, 1),
+        (4000, 1_000_003),
+        (1_000_000_000, 4),
+    ];
     for (bound, step) in table {
         let mut edges = drawn(rt.alloc(), bound, step)?;
-        sort_by_groups(&mut edges);
+        group_and_sort(&mut edges);
         assert!(rt; edges.is_sorted(), "below {bound}, times {step}");
     }
     Ok(())
