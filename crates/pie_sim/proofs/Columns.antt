@@ -1,7 +1,7 @@
 -- Counters fall column by column.
-use Rattle.std.proofs.Common.{◌≡◌, ◌≢◌, ℕ, zero, suc, ◌+◌, ◌*◌, ◌-◌, ◌<◌, ◌≤◌, ◌⊎◌, inl, inr, Bool, true, false, cond, ◌==◌, refl, sym, ◌∙◌, ap, subst, arith, List, [], ◌∷◌, ◌++◌, length, take, slice_index, slice_index_or, Contains, IsTrue}
-use Rattle.std.specs.Prelude.{slice_set, count_by}
-use Rattle.std.proofs.lemmas.Bool.{cases_eq, cases_lt, eqb-true, eq-eqb, ne_eqb}
+use Rattle.std.proofs.Common.{◌≡◌, ◌≢◌, ℕ, ◌+◌, ◌*◌, ◌-◌, ◌<◌, ◌≤◌, inl, inr, true, false, cond, ◌==◌, refl, sym, ◌∙◌, ap, subst, arith, List, [], ◌∷◌, length, take, slice_index, slice_index_or, Contains}
+use Rattle.std.specs.Prelude.{slice_set}
+use Rattle.std.proofs.lemmas.Bool.{cases_eq, eq-eqb, ne_eqb}
 use Rattle.std.proofs.lemmas.List.Sums.{count_by_more_yes, count_by_more_no, sum_by-take-le}
 use Rattle.std.proofs.lemmas.List.{take_more}
 use Rattle.std.proofs.lemmas.List.Elements.{Contains-append_cases}
@@ -13,9 +13,6 @@ use Rattle.pie_core.specs.Locals.{LocalValues}
 use Rattle.pie_sim.specs.Counting.{times_placed, counter_at, OnlyCountersFell, ColumnFell, ColumnsFell}
 use Rattle.pie_sim.proofs.Counts.{set_same, set_place, set_column}
 
-pub only-none : (a : LocalValues) → OnlyCountersFell a a
-only-none a = record { rest = refl; room = refl; known = refl; on = λ q h. h }
-
 pub only-more : (a b c : LocalValues) → OnlyCountersFell a b → OnlyCountersFell b c → OnlyCountersFell a c
 only-more a b c h k = record {
   rest = k.rest ∙ ap (λ (l : LocalValues). let x : LocalValues = record l { counters = c.counters; waiting = c.waiting } in x) h.rest;
@@ -25,14 +22,6 @@ only-more a b c h k = record {
 }
 
 -- ---- one column, reader by reader
-
-pub column-none : (width column : ℕ) (a : LocalValues) → ColumnFell [] width column a a
-column-none width column a = record {
-  only = only-none a;
-  fell = λ p. omega arith;
-  others = λ p c l d. refl;
-  zero = λ r c. let l = c.1 in absurd (omega (arith, l));
-}
 
 -- one reader more
 module _ (row : List Reading) (k : ℕ) (first : Reading) (inside : k < length row) (width column : ℕ) (a b : LocalValues) (so_far : ColumnFell (take k row) width column a b) (small : column < width) where
@@ -91,14 +80,6 @@ module _ (row : List Reading) (k : ℕ) (first : Reading) (inside : k < length r
         ]
 
 -- ---- column by column
-
-pub columns-none : (nodes : List ℕ) (row : List Reading) (fallen : ℕ) (a : LocalValues) → ColumnsFell nodes row fallen 0 a a
-columns-none nodes row fallen a = record {
-  only = only-none a;
-  fell = λ p c l. absurd (omega (arith, l));
-  others = λ p c l e. refl;
-  zero = λ r c there l. absurd (omega (arith, l));
-}
 
 module _ (nodes : List ℕ) (row : List Reading) (fallen end : ℕ) (a b : LocalValues) (so_far : ColumnsFell nodes row fallen end a b) (inside : end < length nodes) where
   -- a column whose node lost no bit

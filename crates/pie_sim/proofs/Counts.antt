@@ -1,8 +1,8 @@
 -- Counters, and what they count.
-use Rattle.std.proofs.Common.{◌≡◌, ◌≢◌, ℕ, zero, suc, ◌+◌, ◌*◌, ◌<◌, ◌≤◌, ◌⊎◌, inl, inr, Bool, true, false, cond, ◌==◌, ◌&&◌, refl, sym, ◌∙◌, ap, subst, arith, mul-le-mul_right, List, [], ◌∷◌, length, slice_index, slice_index_or, Contains, IsTrue}
+use Rattle.std.proofs.Common.{◌≡◌, ◌≢◌, ℕ, zero, suc, ◌+◌, ◌*◌, ◌<◌, ◌≤◌, inl, inr, Bool, true, false, cond, ◌==◌, ◌&&◌, refl, sym, ◌∙◌, ap, arith, mul-le-mul_right, List, [], ◌∷◌, length, slice_index, slice_index_or, Contains}
 use Rattle.std.specs.Prelude.{slice_set, sum_by, count_by}
 use Rattle.std.specs.List.{list_any, range_with_len}
-use Rattle.std.proofs.lemmas.Bool.{cases_eq, cases_lt, eqb-true, eq-eqb, ne_eqb, or_cases, or_left, or_right}
+use Rattle.std.proofs.lemmas.Bool.{cases_eq, cases_lt, eq-eqb, ne_eqb, or_cases, or_left, or_right}
 use Rattle.std.proofs.lemmas.List.{get_or-set_same, get_or-set_other}
 use Rattle.std.proofs.lemmas.List.Sums.{sum_by-cons}
 use Rattle.graph_core.specs.declared.fragment.Reading.{Reading}
@@ -11,7 +11,6 @@ use Rattle.graph_core.specs.Queries.{has_bit}
 use Rattle.graph_core.specs.Theorems.{times_in, ReadersAreTurnedReadings}
 use Rattle.graph_core.proofs.Lists.{contains_here, contains_later}
 use Rattle.graph_core.proofs.Sums.{sum_range_one}
-use Rattle.pie_sim.specs.Falling.{is_read}
 use Rattle.pie_sim.specs.Counting.{times_read, times_placed, counter_at}
 
 abbrev one_or_none : Bool → ℕ

@@ -1,6 +1,6 @@
 -- The numbers of a pattern's nodes.
-use Rattle.std.proofs.Common.{◌≡◌, ◌≢◌, ℕ, ◌^◌, ◌<◌, ◌≤◌, true, false, sym, subst, arith, List, [], ◌∷◌, length, map, nat_eq}
-use Rattle.std.specs.List.{All, AllByRecursion, IsDistinct, list_any}
+use Rattle.std.proofs.Common.{◌≡◌, ◌≢◌, ℕ, ◌^◌, ◌<◌, ◌≤◌, false, sym, arith, List, [], ◌∷◌, length, map, nat_eq}
+use Rattle.std.specs.List.{All, AllByRecursion, IsDistinct}
 use Rattle.std.proofs.lemmas.Bool.{eqb-true, ne_eqb}
 use Rattle.std.proofs.lemmas.List.Elements.{All-map, All-contains}
 use Rattle.std.proofs.lemmas.Map.Steps.{length-le_from_distinct_below}

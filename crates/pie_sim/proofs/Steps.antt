@@ -200,11 +200,6 @@ popped-settled targets part old mid place taken h q l d = elim (h q l) [
   | inr s ↦ inr (subst (λ xs. IsSupported targets part xs q) (sym (ap (λ (x : LocalValues). x.values) taken.1)) s)
 ]
 
-pub popped-less : (old mid new : LocalValues) (place : ℕ) → TakesOne old (Some place) mid → how_many mid.waiting + 1 ≡ how_many old.waiting → work_left new ≤ work_left mid → work_left new < work_left old
-popped-less old mid new place taken fewer no_more =
-    let same : sum_by count_ones mid.values * (length mid.before + 1) ≡ sum_by count_ones old.values * (length old.before + 1) = ap (λ (x : LocalValues). sum_by count_ones x.values * (length x.before + 1)) taken.1 in
-    omega (arith, no_more, same, fewer)
-
 pub none-supported : (targets : List ℕ) (part : FragmentLists) (local : LocalValues) → ((place : ℕ) → waits local.waiting place ≡ false) → IsSettled targets part local → AreSupported targets part local.values
 none-supported targets part local none h p l = elim (h p l) [
   | inl w ↦ absurd (let x : false ≡ true = sym (none p) ∙ w in cc)

@@ -1,5 +1,5 @@
 -- Values of a fragment on their way down to the local solution of a simulation.
-use Rattle.std.specs.Prelude.{◌≡◌, ◌≢◌, ℕ, ◌+◌, ◌*◌, ◌<◌, ◌≤◌, ◌⊎◌, Bool, true, List, [], length, slice_index, slice_index_or, slice_set, Contains, IsTrue, sum_by, count_by, count_ones}
+use Rattle.std.specs.Prelude.{◌≡◌, ◌≢◌, ℕ, ◌+◌, ◌*◌, ◌<◌, ◌≤◌, ◌⊎◌, Bool, true, List, [], length, slice_index, slice_index_or, slice_set, Contains, IsTrue, sum_by, count_ones}
 use Rattle.std.specs.List.{list_any}
 use Rattle.value_order.specs.declared.order.Order.TheVariants.{Mask}
 use Rattle.value_order.specs.Order.{Below}

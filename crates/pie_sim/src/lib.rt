@@ -4,8 +4,11 @@
 //! greatest solution of these equations is exactly what some simulation relates: `sim_equations`. It stands on the
 //! trait of programs.
 //!
-//! A vertex whose set of nodes shrank has its readers tested again, and no other vertex is looked at. (Simulation by
-//! refinement, as of Henzinger, Henzinger and Kopke, FOCS 1995, from a queue.)
+//! Where a bit of a vertex falls, each of its readers has one reading less with that bit, and is tested again where none
+//! is left: so an evaluation takes the time of the readings times the bits that fall, besides one of the counters for
+//! each test. (Simulation by refinement, as of Henzinger, Henzinger and Kopke, FOCS 1995, with its counters.) After a
+//! Take all readers of what fell are tested by their readings, which costs what a small change costs, and they are
+//! counted only where that comes to more than counting does.
 #![tactic(auto)]
 
 mod counted;

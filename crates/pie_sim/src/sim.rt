@@ -81,7 +81,8 @@ impl Sim {
         lower(part, local, place, kept);
     }
 
-    /// Tests each place that waits, until none waits or so many readings were read. Says whether none waits.
+    /// Tests each place that waits by its readings, until none waits or the budget of readings is used up. Says whether
+    /// none waits. It reads no more than the budget and one row.
     fn work_off_within(&self, part: &Fragment, local: &mut Local, budget: usize) -> bool
         requires fits { FitsPart part.now local.old }
         requires listed { ReadersAreListed part.now }
@@ -176,10 +177,11 @@ impl Pie for Sim {
         self.work_off(part, local);
     }
 
+    /// The budget is what it takes at least to count anew.
     fn inceval(&self, part: &Fragment, local: &mut Local, hand: &Hand) {
         lower_mirrors(part, local, hand);
-        let places = local.values().len();
-        if !self.work_off_within(part, local, places) {
+        let budget = local.values().len().saturating_add(local.counters().len());
+        if !self.work_off_within(part, local, budget) {
             self.work_off(part, local);
         }
     }

@@ -1,9 +1,7 @@
 ghost use Rattle.std.specs.Prelude.{◌≡◌};
 
 use crate::compared::{compare_all, expect_values};
-use crate::graphs::{
-    closed_cycle, fork, generated, grid, hub_of_a_path, open_cycle, row_and_loop,
-};
+use crate::graphs::{closed_cycle, fork, generated, grid, hub_of_a_path, open_cycle, row_and_loop};
 use crate::patterns::{all_nodes, chain};
 use graph_core::{Cut, PatternLink, PatternNode};
 use std::test::Fail;

@@ -1,6 +1,6 @@
-use Rattle.std.proofs.Common.{◌≡◌, sym, ap, subst, arith, take, List, slice_index_or, [], length, ◌+◌, ◌*◌, ◌<◌}
+use Rattle.std.proofs.Common.{ap, arith, List, slice_index_or, length, ◌+◌, ◌*◌, ◌<◌}
 use Rattle.graph_core.specs.declared.fragment.Reading.{Reading}
-use Rattle.pie_sim.specs.Counting.{ColumnFell, times_placed}
+use Rattle.pie_sim.specs.Counting.{times_placed}
 use Rattle.pie_sim.proofs.Columns.{still-counted, column-more}
 use Rattle.pie_sim.proofs.Counts.{in_room}
 use Rattle.pie_sim.proofs.counted.lower_column.Goals as goal

@@ -1,7 +1,6 @@
 use Rattle.std.proofs.Common.{◌≡◌, ◌<◌, true, sym, ◌∙◌, ap, subst, arith, length, slice_index, slice_index_or, []}
 use Rattle.std.specs.Int.Bits.{bit_xor}
 use Rattle.graph_core.specs.Queries.{has_bit}
-use Rattle.pie_core.specs.PlaceSets.{waits}
 use Rattle.pie_core.specs.Locals.{LocalValues}
 use Rattle.pie_core.specs.LocalCalls.{with_value}
 use Rattle.pie_sim.specs.Counting.{ColumnsFell, counter_at}

@@ -1,4 +1,4 @@
-use Rattle.std.proofs.Common.{◌≡◌, ◌<◌, true, sym, refl, ◌∙◌, ap, subst, arith, length, slice_index}
+use Rattle.std.proofs.Common.{◌≡◌, ◌<◌, true, sym, ◌∙◌, ap, subst, arith, length, slice_index}
 use Rattle.pie_core.specs.PlaceSets.{waits}
 use Rattle.pie_core.specs.Locals.{LocalValues}
 use Rattle.pie_sim.proofs.Steps.{lowered-same, lowered-other, listed-readers}

@@ -1,10 +1,8 @@
 use Rattle.std.specs.Prelude.{slice_set}
-use Rattle.std.proofs.Common.{◌≡◌, ◌+◌, ◌<◌, refl, sym, ◌∙◌, ap, subst, arith, length, take, List, ℕ, slice_index, bit_and}
+use Rattle.std.proofs.Common.{◌≡◌, ◌+◌, ◌<◌, refl, sym, ◌∙◌, ap, subst, arith, length, take, slice_index, bit_and}
 use Rattle.std.proofs.lemmas.List.{take_all}
 use Rattle.value_order.specs.declared.order.Order.TheVariants.{Mask}
 use Rattle.value_order.proofs.Orders.{meet-below_left}
-use Rattle.message_buffer.specs.Hands.{AreMirrorsOf}
-use Rattle.pie_core.specs.Locals.{FitsPart}
 use Rattle.pie_sim.proofs.Steps.{tested-settled}
 use Rattle.pie_sim.proofs.Mirrors.{AreMet, met-none, met-more, met-all, met-fits}
 use Rattle.pie_sim.proofs.lowering.lower_mirrors.Goals as goal

@@ -1,5 +1,4 @@
-use Rattle.std.proofs.Common.{◌<◌, ◌⊎◌, ◌≡◌, true, ap, sym, length, subst, List, ℕ}
-use Rattle.pie_core.specs.PlaceSets.{waits}
+use Rattle.std.proofs.Common.{sym, subst}
 use Rattle.pie_core.specs.Locals.{LocalValues}
 use Rattle.pie_sim.specs.Falling.{IsSettled}
 use Rattle.pie_sim.proofs.sim.Sim.work_off.Goals as goal

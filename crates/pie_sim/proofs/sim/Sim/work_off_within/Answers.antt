@@ -1,4 +1,4 @@
-use Rattle.std.proofs.Common.{◌≡◌, Some, refl, sym, ap, subst}
+use Rattle.std.proofs.Common.{◌≡◌, Some, refl, sym, subst}
 use Rattle.std.specs.Prelude.{IsNone}
 use Rattle.pie_core.specs.Locals.{LocalValues}
 use Rattle.pie_core.specs.LocalCalls.{TakesOne}

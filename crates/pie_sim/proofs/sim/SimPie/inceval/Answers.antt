@@ -1,5 +1,4 @@
-use Rattle.std.proofs.Common.{◌≡◌, ◌*◌, true, false, not, ap, sym, ◌∙◌, length}
-use Rattle.pie_core.specs.Locals.{FitsPart}
+use Rattle.std.proofs.Common.{◌*◌, ap, ◌∙◌, length}
 use Rattle.pie_sim.specs.SimJobs.{nodes_asked}
 use Rattle.pie_sim.specs.Falling.{HasFallen}
 use Rattle.pie_sim.proofs.Steps.{fallen-trans, fallen-fits}

@@ -1,4 +1,4 @@
-use Rattle.std.proofs.Common.{arith, ap, refl, sym, ◌∙◌, ◌*◌, length, inl}
+use Rattle.std.proofs.Common.{arith, ap, sym, ◌∙◌, ◌*◌, length, inl}
 use Rattle.pie_core.specs.Locals.{LocalValues}
 use Rattle.pie_sim.specs.SimJobs.{nodes_asked}
 use Rattle.pie_sim.specs.Falling.{HasFallen}
