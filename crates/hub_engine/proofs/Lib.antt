@@ -32,3 +32,4 @@ pub mod Hearings
 pub mod Snapshots
 pub mod Seals
 pub mod Sealings
+pub mod Passes

@@ -102,3 +102,56 @@ found_or k (Some i) later = Some (k, i)
 abbrev pub first_of_kinds : Sight → ProbeValues → CutValues → List Desk → ℕ → List Kind → Option (Kind × ℕ)
 first_of_kinds sight probe cut desks turn [] = None
 first_of_kinds sight probe cut desks turn (k ∷ ks) = found_or k (first_desk (admits k sight probe cut) desks turn) (first_of_kinds sight probe cut desks turn ks)
+
+-- ---- one desk
+
+-- the first of these kinds that the desk admits
+abbrev pub first_kind : Sight → ProbeValues → CutValues → ℕ → Desk → List Kind → Option Kind
+first_kind sight probe cut i d [] = None
+first_kind sight probe cut i d (k ∷ ks) = if admits k sight probe cut i d then Some k else first_kind sight probe cut i d ks
+
+abbrev pub may_go_on : Sight → Desk → Bool
+may_go_on sight d = is_near_enough sight.policy sight.least d.round && not sight.due
+
+abbrev pub hold_of : Sight → Desk → Option Kind
+hold_of sight d = if is_some d.delay && not (is_over sight d) then Some kind.Hold else None
+
+-- for a worker that is marked, or needn't be
+abbrev pub kind_with_mail : Sight → ProbeValues → ℕ → Desk → Option Kind
+kind_with_mail sight probe i d =
+    if is_over sight d && may_go_on sight d then Some kind.Take
+    else (if not (is_some d.delay) then Some kind.Stretch else (if may_answer i probe then Some kind.Nack else hold_of sight d))
+
+abbrev pub kind_without_mail : Sight → ProbeValues → ℕ → Desk → Option Kind
+kind_without_mail sight probe i d =
+    if may_answer i probe then (if took_since_ask i probe then Some kind.Nack else Some kind.Ack)
+    else (if may_flag i probe then Some kind.Flag else hold_of sight d)
+
+abbrev pub kind_of_fresh : Sight → Desk → Option Kind
+kind_of_fresh sight d = if may_go_on sight d then Some kind.Take else hold_of sight d
+
+-- ---- one pass over the desks
+
+-- the place of a kind in the order
+abbrev pub rank : Kind → ℕ
+rank kind.Mark = 0
+rank kind.Take = 1
+rank kind.Stretch = 2
+rank kind.Ack = 3
+rank kind.Nack = 4
+rank kind.Flag = 5
+rank kind.Hold = 6
+
+-- the first kind of the desk with this number
+abbrev pub kind_at : Sight → ProbeValues → CutValues → List Desk → ℕ → Option Kind
+kind_at sight probe cut desks i = elim (slice_get desks i) [ None ↦ None | Some d ↦ first_kind sight probe cut i d kinds ]
+
+-- what is best with a desk more: an earlier kind, or else what was found before
+abbrev pub better : Option (Kind × ℕ) → Option Kind → ℕ → Option (Kind × ℕ)
+better best None i = best
+better None (Some k) i = Some (k, i)
+better (Some (other, j)) (Some k) i = if nat_lt (rank k) (rank other) then Some (k, i) else Some (other, j)
+
+abbrev pub best_of : (ℕ → Option Kind) → List ℕ → Option (Kind × ℕ) → Option (Kind × ℕ)
+best_of kind_of [] best = best
+best_of kind_of (i ∷ is) best = best_of kind_of is (better best (kind_of i) i)

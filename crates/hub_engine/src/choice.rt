@@ -1,7 +1,8 @@
-ghost use Rattle.std.specs.Prelude.{◌≡◌, ◌-◌, ◌<◌, ◌≤◌, IsTrue, length};
+ghost use Rattle.std.specs.Prelude.{◌≡◌, ◌-◌, ◌<◌, ◌≤◌, IsTrue, true, false, Some, length};
 ghost use Rattle.std.specs.List.{range_with_len};
 ghost use Rattle.legal_journal.specs.Delays.{has_enough};
-ghost use Rattle.hub_engine.specs.Kinds.{IsLeastRound, lesser, is_near, is_near_enough, turns_are_over, is_over, is_unmarked, admits, holds_at, first_where, first_desk, first_of_kinds, kinds};
+ghost use Rattle.hub_engine.specs.Kinds.{IsLeastRound, lesser, is_near, is_near_enough, turns_are_over, is_over, is_unmarked, may_go_on, hold_of, first_kind, kind_with_mail, kind_without_mail, kind_of_fresh, kind_at, rank, better, best_of, first_of_kinds, kinds};
+ghost use Rattle.hub_engine.specs.Desks.{is_out, is_fresh_at, rests_at, has_mail};
 
 use crate::desk::{Delay, Desk};
 use crate::kind::Kind;
@@ -9,17 +10,6 @@ use crate::sight::Sight;
 use graph_core::Policy;
 use stop_probe::Probe;
 use token_cut::CutState;
-
-/// The kinds in the order in which a lane looks for them.
-const KINDS: [Kind; 7] = [
-    Kind::Mark,
-    Kind::Take,
-    Kind::Stretch,
-    Kind::Ack,
-    Kind::Nack,
-    Kind::Flag,
-    Kind::Hold,
-];
 
 /// The least round of a busy worker, where one is busy.
 pub fn least_round(desks: &[Desk]) -> Option<u64>
@@ -101,85 +91,133 @@ impl Desk {
         turns_are_over(self.delay, sight.clock) || has_enough(&sight.policy, self.buffer.batches())
     }
 
-    /// Whether an event of this kind of the worker with this number may come.
-    fn admits(&self, kind: Kind, sight: &Sight, probe: &Probe, cut: &CutState, worker: u32) -> bool
+    /// Whether the policy and the snapshots let the worker take.
+    fn may_go_on(&self, sight: &Sight) -> bool
+        ensures { result ≡ may_go_on sight.now self.now }
+    {
+        is_near_enough(&sight.policy, sight.least, self.round) && !sight.due
+    }
+
+    /// A Hold, while the delay lasts.
+    fn hold(&self, sight: &Sight) -> Option<Kind>
+        ensures { result ≡ hold_of sight.now self.now }
+    {
+        if self.delay.is_some() && !self.is_over(sight) {
+            return Some(Kind::Hold);
+        }
+        None
+    }
+
+    /// The first kind of a worker that rests while mail waits.
+    fn kind_with_mail(&self, sight: &Sight, probe: &Probe, worker: u32) -> Option<Kind>
+        ensures { result ≡ kind_with_mail sight.now probe.now worker self.now }
+    {
+        if self.is_over(sight) && self.may_go_on(sight) {
+            return Some(Kind::Take);
+        }
+        if self.delay.is_none() {
+            return Some(Kind::Stretch);
+        }
+        if probe.may_answer(worker) {
+            return Some(Kind::Nack);
+        }
+        self.hold(sight)
+    }
+
+    /// The first kind of a worker that rests without mail.
+    fn kind_without_mail(&self, sight: &Sight, probe: &Probe, worker: u32) -> Option<Kind>
+        requires { worker < probe.now.workers }
+        ensures { result ≡ kind_without_mail sight.now probe.now worker self.now }
+    {
+        if probe.may_answer(worker) {
+            if probe.took_since_ask(worker) {
+                return Some(Kind::Nack);
+            }
+            return Some(Kind::Ack);
+        }
+        if probe.may_flag(worker) {
+            return Some(Kind::Flag);
+        }
+        self.hold(sight)
+    }
+
+    /// The first kind of a fresh worker.
+    fn kind_of_fresh(&self, sight: &Sight) -> Option<Kind>
+        ensures { result ≡ kind_of_fresh sight.now self.now }
+    {
+        if self.may_go_on(sight) {
+            return Some(Kind::Take);
+        }
+        self.hold(sight)
+    }
+
+    /// The first kind of event, in the order in which a lane looks for them, that may come of the worker with this number.
+    fn first_kind(&self, sight: &Sight, probe: &Probe, cut: &CutState, worker: u32) -> Option<Kind>
         requires probe { worker < probe.now.workers }
         requires cut { IsTrue cut.now.recording → worker < length cut.now.parts }
-        ensures { result ≡ admits kind sight.now probe.now cut.now worker self.now }
+        ensures { result ≡ first_kind sight.now probe.now cut.now worker self.now kinds }
     {
-        match kind {
-            Kind::Mark => is_unmarked(cut, worker) && !self.is_out(),
-            Kind::Take => {
-                (self.is_fresh() || self.rests() && self.has_mail() && self.is_over(sight))
-                    && is_near_enough(&sight.policy, sight.least, self.round)
-                    && !sight.due
-                    && !(is_unmarked(cut, worker) && self.buffer.tagged() > 0)
-            }
-            Kind::Stretch => self.rests() && self.has_mail() && self.delay.is_none(),
-            Kind::Ack => {
-                probe.may_answer(worker)
-                    && self.rests()
-                    && !self.has_mail()
-                    && !probe.took_since_ask(worker)
-            }
-            Kind::Nack => {
-                probe.may_answer(worker)
-                    && self.rests()
-                    && (self.has_mail() || probe.took_since_ask(worker))
-            }
-            Kind::Flag => probe.may_flag(worker) && self.rests() && !self.has_mail(),
-            Kind::Hold => self.delay.is_some() && !self.is_over(sight),
+        if self.is_out() {
+            return self.hold(sight);
         }
+        if is_unmarked(cut, worker) {
+            return Some(Kind::Mark);
+        }
+        if self.is_fresh() {
+            return self.kind_of_fresh(sight);
+        }
+        if self.has_mail() {
+            return self.kind_with_mail(sight, probe, worker);
+        }
+        self.kind_without_mail(sight, probe, worker)
     }
 }
 
-/// The first worker from one number up to another whose desk admits the kind.
-fn first_between(
-    kind: Kind,
+/// What is best with a desk more: an earlier kind, or else what was found before.
+fn better(best: Option<(Kind, u32)>, kind: Option<Kind>, worker: u32) -> Option<(Kind, u32)>
+    ensures { result ≡ better best kind worker }
+{
+    let Some(kind) = kind else {
+        return best;
+    };
+    match best {
+        Some((other, from)) => {
+            if kind.rank() < other.rank() {
+                Some((kind, worker))
+            } else {
+                Some((other, from))
+            }
+        }
+        None => Some((kind, worker)),
+    }
+}
+
+/// The best that was found before and at the desks from one number up to another.
+fn best_between(
+    best: Option<(Kind, u32)>,
     sight: &Sight,
     probe: &Probe,
     cut: &CutState,
     desks: &[Desk],
     from: usize,
     to: usize,
-) -> Option<u32>
+) -> Option<(Kind, u32)>
     requires few { length desks.now ≤ 64 }
     requires workers { probe.now.workers ≡ length desks.now }
     requires parts { IsTrue cut.now.recording → length cut.now.parts ≡ length desks.now }
     requires from { from ≤ to }
     requires to { to ≤ length desks.now }
-    ensures { result ≡ first_where (holds_at (admits kind sight.now probe.now cut.now) desks.now) (range_with_len from (to - from)) }
+    ensures { result ≡ best_of (kind_at sight.now probe.now cut.now desks.now) (range_with_len from (to - from)) best }
 {
+    let mut found = best;
     'desks: for worker in from..to {
-        if desks[worker].admits(kind, sight, probe, cut, worker as u32) {
-            return Some(worker as u32);
-        }
+        let kind = desks[worker].first_kind(sight, probe, cut, worker as u32);
+        found = better(found, kind, worker as u32);
     }
-    None
+    found
 }
 
-/// The first worker in turn whose desk admits the kind.
-fn first_from_turn(
-    kind: Kind,
-    sight: &Sight,
-    probe: &Probe,
-    cut: &CutState,
-    desks: &[Desk],
-    turn: usize,
-) -> Option<u32>
-    requires few { length desks.now ≤ 64 }
-    requires workers { probe.now.workers ≡ length desks.now }
-    requires parts { IsTrue cut.now.recording → length cut.now.parts ≡ length desks.now }
-    requires turn { turn ≤ length desks.now }
-    ensures { result ≡ first_desk (admits kind sight.now probe.now cut.now) desks.now turn }
-{
-    match first_between(kind, sight, probe, cut, desks, turn, desks.len()) {
-        Some(worker) => Some(worker),
-        None => first_between(kind, sight, probe, cut, desks, 0, turn),
-    }
-}
-
-/// The first kind of event that some worker admits, with the first such worker in turn.
+/// The first kind of event that some worker admits, with the first such worker in turn. Goes over the desks once.
 pub fn first_of_kinds(
     sight: &Sight,
     probe: &Probe,
@@ -193,10 +231,6 @@ pub fn first_of_kinds(
     requires turn { turn ≤ length desks.now }
     ensures { result ≡ first_of_kinds sight.now probe.now cut.now desks.now turn kinds }
 {
-    'kinds: for kind in KINDS {
-        if let Some(worker) = first_from_turn(kind, sight, probe, cut, desks, turn) {
-            return Some((kind, worker));
-        }
-    }
-    None
+    let later = best_between(None, sight, probe, cut, desks, turn, desks.len());
+    best_between(later, sight, probe, cut, desks, 0, turn)
 }
