@@ -1,6 +1,6 @@
 -- What the calls on the values of a fragment leave.
-use Rattle.std.specs.Prelude.{◌≡◌, ℕ, ◌+◌, ◌*◌, ◌==◌, not, true, false, List, Option, Some, None, length, take, replicate, slice_index, slice_set}
-use Rattle.std.specs.List.{filter, range_with_len}
+use Rattle.std.specs.Prelude.{◌≡◌, ℕ, ◌+◌, ◌*◌, true, false, List, Option, Some, None, length, take, replicate, slice_set}
+use Rattle.pie_core.specs.FallenPlaces.{fallen_since}
 use Rattle.pie_core.specs.PlaceSets.{waits}
 use Rattle.pie_core.specs.Locals.{LocalValues}
 
@@ -29,4 +29,4 @@ TakesOne local (Some place) after = (waits local.waiting place ≡ true) × (aft
 
 -- the owned places whose values aren't those of before, in rising order
 abbrev pub fallen_places : LocalValues → List ℕ
-fallen_places local = filter (λ place. not (slice_index local.before place == slice_index local.values place)) (range_with_len 0 (length local.before))
+fallen_places local = fallen_since local.before local.values

@@ -6,6 +6,7 @@
 #![tactic(auto)]
 
 mod evaluation;
+mod fallen;
 mod laws;
 mod local;
 mod pie;

@@ -6,6 +6,7 @@ ghost use Rattle.pie_core.specs.Locals.{IsLocal};
 ghost use Rattle.pie_core.specs.LocalCalls.{new_local, loaded, settled, with_value, with_waiting, TakesOne, fallen_places};
 ghost use Rattle.pie_core.specs.LocalLends.{LendsCounters};
 
+use crate::fallen::Fallen;
 use crate::worklist::Worklist;
 use grape_port::NoMemory;
 use graph_core::{Fragment, Reading};
@@ -21,17 +22,19 @@ pub struct Local {
     before: Vec<u64>,
     counters: Vec<u64>,
     worklist: Worklist,
+    fallen: Fallen,
 }
 
 impl Model for Local {
     ghost use Rattle.std.specs.Prelude.{◌≡◌, ◌≤◌, length, vec_len};
+    ghost use Rattle.pie_core.specs.FallenPlaces.{ListsFallen};
     ghost use Rattle.pie_core.specs.Locals.{LocalValues};
 
     ghost Value = { LocalValues };
 
     ghost view = { λ l. record { values = l.values.items; before = l.before.items; counters = l.counters.items; waiting = l.worklist } };
 
-    ghost invariant = { λ l. (length l.worklist ≡ vec_len l.before) × (vec_len l.before ≤ vec_len l.values) };
+    ghost invariant = { λ l. (length l.worklist ≡ vec_len l.before) × (vec_len l.before ≤ vec_len l.values) × ListsFallen l.before.items l.values.items l.fallen };
 }
 
 impl Local {
@@ -59,6 +62,7 @@ impl Local {
             before,
             counters,
             worklist,
+            fallen: Fallen::new(alloc, owned)?,
         })
     }
 
@@ -68,6 +72,7 @@ impl Local {
         ensures { self.new ≡ loaded self.old values.now }
     {
         self.values.copy_from_slice(values);
+        self.fallen.give_up();
         self.settle();
     }
 
@@ -90,8 +95,7 @@ impl Local {
     pub fn settle(&mut self)
         ensures { self.new ≡ settled self.old }
     {
-        let owned = self.before.len();
-        self.before.copy_from_slice(&self.values[..owned]);
+        self.fallen.settle(&mut self.before, &self.values);
     }
 
     /// Sets the value of a place.
@@ -99,6 +103,7 @@ impl Local {
         requires { place < length self.old.values }
         ensures { self.new ≡ with_value self.old place value }
     {
+        self.fallen.note(&self.before, &self.values, place, value);
         self.values[place as usize] = value;
         self.worklist.moved(place, value);
     }
@@ -146,14 +151,16 @@ impl Local {
     /// Puts the list of the places whose values changed since the last `load` or `settle` in rising order, where few did.
     pub fn gather_fallen(&mut self)
         ensures { self.new ≡ self.old }
-    {}
+    {
+        self.fallen.sort();
+    }
 
     /// The owned places whose values aren't those of `before`, in rising order. `None` comes where many changed, or where
     /// the list was not gathered since.
     pub fn fallen(&self) -> Option<&[u32]>
         ensures { IfSome result (λ places. places.now ≡ fallen_places self.now) }
     {
-        None
+        self.fallen.sorted()
     }
 
     /// The program's counters, those of the first owned place first.

@@ -1,5 +1,6 @@
-ghost use Rattle.std.specs.Prelude.{◌≡◌, ◌∷◌, []};
+ghost use Rattle.std.specs.Prelude.{◌≡◌, ◌∷◌, [], length, IfOk};
 
+use crate::fallen::Fallen;
 use crate::Local;
 use crate::worklist::Worklist;
 use graph_core::{Fragment, FragmentParts, Reading, Rows};
@@ -13,7 +14,9 @@ fn reading(place: u32, weight: u32) -> Reading
 }
 
 /// Vertex 4 of a fragment, which reads vertex 9 and itself.
-fn fragment(alloc: Global) -> Result<Fragment, Fail> {
+fn fragment(alloc: Global) -> Result<Fragment, Fail>
+    ensures { IfOk result (λ part. (length part.owned ≡ 1) × (length part.mirrors ≡ 1)) }
+{
     let mut readings = Rows::with_capacity(alloc, 1, 2)?;
     readings.push_row(&[reading(0, 7), reading(1, 8)])?;
     let items = vec![in alloc; reading(0, 7), reading(0, 8)]?;
@@ -37,6 +40,67 @@ fn keeps_values(rt: HostRuntime) -> Result<(), Fail> {
     assert_eq!(rt; local.values(), [0, 0].as_slice());
     assert_eq!(rt; local.counters(), [0, 0, 0].as_slice());
     assert_eq!(rt; local.before(), [0].as_slice());
+    Ok(())
+}
+
+/// Whether the places that fell are known, and are these.
+fn lists(local: &Local, places: &[u32]) -> bool {
+    match local.fallen() {
+        Some(listed) => listed == places,
+        None => false,
+    }
+}
+
+#[test]
+fn lists_what_fell(rt: HostRuntime) -> Result<(), Fail> {
+    let part = fragment(rt.alloc())?;
+    let mut local = Local::new(rt.alloc(), &part, 0)?;
+    local.load(&[9, 9]);
+    local.set(1, 4);
+    local.gather_fallen();
+    assert!(rt; lists(&local, &[]));
+    local.set(0, 5);
+    assert!(rt; local.fallen().is_none());
+    local.set(0, 4);
+    local.gather_fallen();
+    assert!(rt; lists(&local, &[0]));
+    local.settle();
+    assert_eq!(rt; local.before(), [4].as_slice());
+    local.gather_fallen();
+    assert!(rt; lists(&local, &[]));
+    Ok(())
+}
+
+/// Where a value becomes that of before again the list is given up until the values settle.
+#[test]
+fn lists_again_what_falls_later(rt: HostRuntime) -> Result<(), Fail> {
+    let part = fragment(rt.alloc())?;
+    let mut local = Local::new(rt.alloc(), &part, 0)?;
+    local.set(0, 5);
+    local.set(0, 0);
+    local.set(0, 7);
+    local.gather_fallen();
+    assert!(rt; local.fallen().is_none());
+    local.settle();
+    assert_eq!(rt; local.before(), [7].as_slice());
+    local.set(0, 6);
+    local.gather_fallen();
+    assert!(rt; lists(&local, &[0]));
+    Ok(())
+}
+
+#[test]
+fn lists_as_many_as_there_is_room_for(rt: HostRuntime) -> Result<(), Fail> {
+    let mut list = Fallen::new(rt.alloc(), 2)?;
+    for place in 0..64 {
+        list.add(63 - place);
+    }
+    list.sort();
+    assert_eq!(rt; list.sorted().map(|places| places.len()), Some(64));
+    assert_eq!(rt; list.sorted().map(|places| places.starts_with(&[0, 1, 2])), Some(true));
+    list.add(64);
+    list.sort();
+    assert_eq!(rt; list.sorted(), None);
     Ok(())
 }
 
