@@ -14,6 +14,7 @@ pub mod Takings
 pub mod Works
 pub mod Marks
 pub mod Mailing
+pub mod Listed
 pub mod Ready
 pub mod Opening
 pub mod First

@@ -344,7 +344,7 @@ leads_at desks olds row i d all h e =
     subst (λ (l : List ℕ). (slice_index_or row i d).mirror < slice_index l (slice_index_or row i d).fragment) (sym e) (All-get_or (λ r. r.mirror < slice_index (mirror_counts olds) r.fragment) row i d h all)
 
 -- posts of one place more
-rows_more : (k : ℕ) (old new : List ℕ) (routes : List (List Route)) (p : ℕ) → p < length routes → p < length old → p < length new →
+pub rows_more : (k : ℕ) (old new : List ℕ) (routes : List (List Route)) (p : ℕ) → p < length routes → p < length old → p < length new →
     posts_to k old new (take p routes) ++ (if slice_index old p == slice_index new p then [] else posts_along k (slice_index new p) (slice_index_or routes p [])) ≡ posts_to k old new (take (suc p) routes)
 rows_more k old new [] p h l m = absurd (omega (arith, h))
 rows_more k [] new (r ∷ routes) p h l m = absurd (omega (arith, l))

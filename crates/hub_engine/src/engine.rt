@@ -419,6 +419,7 @@ impl<P: Pie, Q: Pacer> Engine<P, Q> {
             tagged,
         };
         let routes = &self.routes[index];
+        local.gather_fallen();
         post_changes(sender, routes, &local, &mut self.desks, &mut self.cut);
         local.settle();
         self.desks[index].rest(round, local, hand);

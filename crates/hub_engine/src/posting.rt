@@ -1,6 +1,7 @@
 ghost use Rattle.std.specs.Prelude.{◌&&◌, ◌≡◌, ◌≢◌, ◌<◌, ◌≤◌, [], ◌∷◌, length, slice_index, All, IsTrue};
 ghost use Rattle.value_order.specs.declared.TheConstants.{NOTHING};
 ghost use Rattle.token_cut.specs.Recording.{is_marked};
+ghost use Rattle.pie_core.specs.LocalCalls.{fallen_places};
 ghost use Rattle.base_machine.specs.Machine.{posts_to};
 ghost use Rattle.hub_engine.specs.Posting.{posted, recorded_with, mails_in, HasMailOf, LeadToDesks, ChangesAreValues, AllCanReceive, mirror_counts, mailed, posts_along, AreBegun, CanBegin};
 
@@ -22,6 +23,63 @@ pub fn carry_token(cut: &CutState, worker: u32) -> bool
 /// token to a worker that is marked in an open recording is late, and its values also lower what is recorded of that
 /// worker's mail.
 pub fn post_changes(
+    sender: Sender,
+    routes: &Rows<Route>,
+    local: &Local,
+    desks: &mut [Desk],
+    cut: &mut CutState,
+)
+    requires rows { length routes.now ≡ length local.now.before }
+    requires lead { LeadToDesks routes.now desks.old }
+    requires values { ChangesAreValues local.now.before local.now.values }
+    requires receive { AllCanReceive sender.place desks.old }
+    requires few { length desks.old ≤ 64 }
+    requires parts { HasMailOf desks.old cut.old }
+    ensures desks { desks.new ≡ posted sender local.now.before local.now.values routes.now desks.old }
+    ensures cut { cut.new ≡ recorded_with sender (λ k. posts_to k local.now.before local.now.values routes.now) cut.old }
+{
+    match local.fallen() {
+        Some(places) => post_listed(sender, routes, local, places, desks, cut),
+        None => post_all(sender, routes, local, desks, cut),
+    }
+}
+
+/// The same, which goes over the list of the places whose values changed.
+fn post_listed(
+    sender: Sender,
+    routes: &Rows<Route>,
+    local: &Local,
+    places: &[u32],
+    desks: &mut [Desk],
+    cut: &mut CutState,
+)
+    requires rows { length routes.now ≡ length local.now.before }
+    requires lead { LeadToDesks routes.now desks.old }
+    requires values { ChangesAreValues local.now.before local.now.values }
+    requires receive { AllCanReceive sender.place desks.old }
+    requires few { length desks.old ≤ 64 }
+    requires parts { HasMailOf desks.old cut.old }
+    requires listed { places.now ≡ fallen_places local.now }
+    ensures desks { desks.new ≡ posted sender local.now.before local.now.values routes.now desks.old }
+    ensures cut { cut.new ≡ recorded_with sender (λ k. posts_to k local.now.before local.now.values routes.now) cut.old }
+{
+    let values = local.values();
+    let mut begun = [false; 64];
+    'listed: for place in places {
+        let index = *place as usize;
+        post_along(
+            sender,
+            routes.row(index),
+            values[index],
+            desks,
+            cut,
+            &mut begun,
+        );
+    }
+}
+
+/// The same, which goes over all owned places.
+fn post_all(
     sender: Sender,
     routes: &Rows<Route>,
     local: &Local,

@@ -2,8 +2,8 @@ use Rattle.std.proofs.Common.{◌≡◌, ◌<◌, ◌∙◌, ℕ, List, length, 
 use Rattle.graph_core.specs.declared.fragment.Route.{Route}
 use Rattle.hub_engine.specs.Posting.{mirror_counts, AreBegun}
 use Rattle.hub_engine.proofs.Mailing.{mail_begins, mailed_counts, mailed_mails, mailed_can_begin, can_receive, row_leads, row_mailed, row_left, mail_ends, late_ends}
-use Rattle.hub_engine.proofs.posting.post_changes.Goals as goal
-use Rattle.hub_engine.proofs.posting.post_changes.Goals.{then-before-place, else-before-place}
+use Rattle.hub_engine.proofs.posting.post_all.Goals as goal
+use Rattle.hub_engine.proofs.posting.post_all.Goals.{then-before-place, else-before-place}
 
 pub owned-init : goal.owned-init
 owned-init c = mail_begins _ _ _ _ _ refl (λ j. refl)

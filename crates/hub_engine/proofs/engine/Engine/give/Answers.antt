@@ -5,7 +5,10 @@ use Rattle.hub_engine.specs.declared.desk.Desk.{Desk}
 use Rattle.hub_engine.specs.declared.sender.Sender.{Sender}
 use Rattle.hub_engine.specs.HubValues.{HubValues}
 use Rattle.hub_engine.specs.States.{machine}
-use Rattle.hub_engine.specs.Posting.{LeadToDesks, AllCanReceive, HasMailOf}
+use Rattle.base_machine.specs.Machine.{posts_to}
+use Rattle.pie_core.specs.Locals.{LocalValues}
+use Rattle.pie_core.specs.LocalCalls.{settled}
+use Rattle.hub_engine.specs.Posting.{LeadToDesks, AllCanReceive, ChangesAreValues, HasMailOf, posted, recorded_with}
 use Rattle.hub_engine.proofs.Gives
 use Rattle.hub_engine.proofs.engine.Engine.give.Goals as goal
 
@@ -37,7 +40,7 @@ post_changes-requires-clause-rows g c =
     let may = Gives.may_here c.self.view_is c.requires.work in
     let going = Gives.going_here c.self.view_is c.requires.going in
     ap (λ (l : List (List Route)). length l) (c.index-routes.ensures ∙ Gives.routes_here c.self.invariant.1 c.self.invariant.2 may going c.index-routes.result.now)
-    ∙ Gives.rows_fit c.self.invariant.1 c.self.invariant.2 may going
+    ∙ (Gives.rows_fit c.self.invariant.1 c.self.invariant.2 may going ∙ sym (ap (λ (l : LocalValues). length l.before) c.gather_fallen.ensures))
 
 pub post_changes-requires-clause-lead : goal.post_changes-requires-clause-lead
 post_changes-requires-clause-lead g c =
@@ -50,7 +53,8 @@ post_changes-requires-clause-lead g c =
 
 pub post_changes-requires-clause-values : goal.post_changes-requires-clause-values
 post_changes-requires-clause-values g c =
-    Gives.changes_are_values c.self.invariant.1 c.self.invariant.2 (Gives.may_here c.self.view_is c.requires.work) (Gives.going_here c.self.view_is c.requires.going)
+    subst (λ (l : LocalValues). ChangesAreValues l.before l.values) (sym c.gather_fallen.ensures)
+    (Gives.changes_are_values c.self.invariant.1 c.self.invariant.2 (Gives.may_here c.self.view_is c.requires.work) (Gives.going_here c.self.view_is c.requires.going))
 
 pub post_changes-requires-clause-receive : goal.post_changes-requires-clause-receive
 post_changes-requires-clause-receive g c =
@@ -86,14 +90,17 @@ invariant_of-self g c =
     let rows = c.index-routes.ensures ∙ Gives.routes_here c.self.invariant.1 c.self.invariant.2 may going c.index-routes.result.now in
     let sender : Sender = record { place = c.len-place.result; round = c.index.result.now.round + 1; tagged = c.carry_token-tagged.result } in
     let sends = Gives.sender_is c.self.invariant.1 c.self.invariant.2 may going c.index.result.now c.len-place.result (c.index.result.now.round + 1) c.carry_token-tagged.result c.len-place.ensures (ap (λ (d : Desk). d.round + 1) c.index.ensures) c.carry_token-tagged.ensures in
+    let posts = c.post_changes.ensures.desks ∙ ap (λ (l : LocalValues). posted sender l.before l.values c.index-routes.result.now c.deref_mut.result.now) c.gather_fallen.ensures in
+    let late = c.post_changes.ensures.cut ∙ ap (λ (l : LocalValues). recorded_with sender (λ k. posts_to k l.before l.values c.index-routes.result.now) c.self.inside.cut) c.gather_fallen.ensures in
+    let settles = c.settle.ensures ∙ ap settled c.gather_fallen.ensures in
     let long = Gives.written_length c.self.invariant.1 c.self.invariant.2 may going c.self.inside.desks.len c.post_changes.new.desks c.deref_mut.result.now c.index-routes.result.now
-    sender c.rest.new.self c.post_changes.ensures.desks c.deref_mut.ensures.value c.self.inside.desks.ok.0 in
+    sender c.rest.new.self posts c.deref_mut.ensures.value c.self.inside.desks.ok.0 in
     let room = c.self.invariant.4 in (
       c.self.invariant.0,
       Gives.hub_after c.self.invariant.1 c.self.invariant.2 may going new (refl, refl, c.push.ensures.events, refl) c.push.ensures.spare,
       Gives.tables_written c.self.invariant.1 c.self.invariant.2 may going new (refl, refl, c.push.ensures.events, refl) c.self.inside.desks.len c.post_changes.new.desks
-          c.deref_mut.result.now c.index-routes.result.now c.settle.new.self c.index_mut.result.now sender c.rest.new.self c.post_changes.new.cut c.post_changes.ensures.desks rows c.deref_mut.ensures.value c.self.inside.desks.ok.0 c.settle.ensures
-          c.index_mut.ensures.value sends c.rest.ensures c.post_changes.ensures.cut,
+          c.deref_mut.result.now c.index-routes.result.now c.settle.new.self c.index_mut.result.now sender c.rest.new.self c.post_changes.new.cut posts rows c.deref_mut.ensures.value c.self.inside.desks.ok.0 settles
+          c.index_mut.ensures.value sends c.rest.ensures late,
       c.self.invariant.3,
       omega (arith, long, room),
     )
