@@ -104,8 +104,9 @@ impl Local {
         ensures { self.new ≡ with_value self.old place value }
     {
         self.fallen.note(&self.before, &self.values, place, value);
+        let old = self.values[place as usize];
         self.values[place as usize] = value;
-        self.worklist.moved(place, value);
+        self.worklist.moved(place, old, value);
     }
 
     /// Puts an owned place on the worklist, where it isn't on it.

@@ -98,6 +98,17 @@ impl Shelves {
         self.join(link.back, link.next);
     }
 
+    /// Moves a place from the shelf of its old value to that of its new one.
+    pub(crate) fn move_over(&mut self, place: u32, old: u64, value: u64)
+        requires { place < self.old }
+        ensures { self.new ≡ self.old }
+    {
+        if old >> self.shift != value >> self.shift {
+            self.take_out(place);
+            self.put(place, value);
+        }
+    }
+
     /// Lets two links stand next to each other.
     fn join(&mut self, before: u32, behind: u32)
         ensures { self.new ≡ self.old }

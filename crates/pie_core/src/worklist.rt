@@ -78,12 +78,11 @@ impl Worklist {
     }
 
     /// Says that the value of a place is another one now.
-    pub(crate) fn moved(&mut self, place: u32, value: u64)
+    pub(crate) fn moved(&mut self, place: u32, old: u64, value: u64)
         ensures { self.new ≡ self.old }
     {
         if self.waits(place) {
-            self.shelves.take_out(place);
-            self.shelves.put(place, value);
+            self.shelves.move_over(place, old, value);
         }
     }
 
