@@ -7,7 +7,7 @@ use grape_port::NoMemory;
 use graph_core::{Cut, Fragment, Graph, Job, Query};
 use graph_text::TextFault;
 use message_buffer::Hand;
-use program_trials::{Plain, edge, generated, job_of, read_graph, trials};
+use program_trials::{Plain, Shape, edge, generated, job_of, read_graph, shaped, trials};
 use std::alloc::Global;
 use std::test::Fail;
 
@@ -152,6 +152,30 @@ fn reachability_agrees_with_plain_evaluation(rt: HostRuntime) -> Result<(), Fail
                 Cut::Hash,
             );
             compare_all(&rt, rt.alloc(), &reach, &by_hash, 0)?;
+        }
+    }
+    Ok(())
+}
+
+#[test]
+fn shapes_agree_with_plain_evaluation(rt: HostRuntime) -> Result<(), Fail> {
+    let alloc = rt.alloc();
+    for shape in [Shape::Path, Shape::Grid, Shape::Star] {
+        for fragments in 1..4 {
+            let labels = job_of(
+                shaped(alloc, shape, 57)?,
+                Query::Label,
+                fragments,
+                Cut::Hash,
+            );
+            compare_all(&rt, alloc, &Labels::new(), &labels, 17)?;
+            let reach = job_of(
+                shaped(alloc, shape, 57)?,
+                Query::Reach(34),
+                fragments,
+                Cut::Range,
+            );
+            compare_all(&rt, alloc, &Reach::new(), &reach, 0)?;
         }
     }
     Ok(())

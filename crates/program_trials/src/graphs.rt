@@ -88,3 +88,51 @@ pub fn generated(
     }
     read_graph(alloc, lines.as_str())
 }
+
+/// How the vertices of a graph are linked.
+#[derive(Clone, Copy)]
+pub enum Shape {
+    /// One behind the other.
+    Path,
+    /// Ten in a row, and the rows below each other.
+    Grid,
+    /// All with the first.
+    Star,
+}
+
+impl Shape {
+    /// The vertex from which an edge leads to this one, and the one to which an edge leads back. It isn't the first one.
+    fn links(self, vertex: u32) -> (u32, u32)
+        requires { 1 ≤ vertex }
+    {
+        match self {
+            Shape::Path => (vertex - 1, vertex - 1),
+            Shape::Grid => {
+                let left = if vertex % 10 == 0 {
+                    vertex - 10
+                } else {
+                    vertex - 1
+                };
+                let above = if vertex < 10 { vertex - 1 } else { vertex - 10 };
+                (left, above)
+            }
+            Shape::Star => (0, 0),
+        }
+    }
+}
+
+/// The vertices from 0 up to before `vertices` in a shape, with edges both ways of weights below 7, and a loop of weight 0
+/// at the vertex 0.
+pub fn shaped(alloc: Global, shape: Shape, vertices: u32) -> Result<Graph, TextFault>
+    ensures { IfOk result IsGraph }
+{
+    let mut lines = String::new(alloc);
+    for vertex in 1..vertices {
+        let (from, to) = shape.links(vertex);
+        let there = vertex % 7;
+        let back = vertex % 5;
+        let line = format!(in alloc; "{from} {vertex} {there}\n{vertex} {to} {back}\n")?;
+        lines.push_str(line.as_str())?;
+    }
+    read_graph(alloc, lines.as_str())
+}

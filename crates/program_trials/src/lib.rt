@@ -12,7 +12,7 @@ mod plain;
 mod trials_of_parts;
 
 pub use evaluation::{evaluated, evaluated_whole, hand_of, starts};
-pub use graphs::{drawn_edges, edge, generated, read_graph};
+pub use graphs::{Shape, drawn_edges, edge, generated, read_graph, shaped};
 pub use jobs::job_of;
 pub use plain::Plain;
 pub use trials_of_parts::{Trial, trials};
