@@ -23,6 +23,7 @@ pub struct Local {
     counters: Vec<u64>,
     worklist: Worklist,
     fallen: Fallen,
+    greatest_weight: u64,
 }
 
 impl Model for Local {
@@ -56,13 +57,15 @@ impl Local {
         let before = zeros(alloc, owned)?;
         let counters = zeros(alloc, count)?;
         let mut worklist = Worklist::new(alloc, owned)?;
-        worklist.space(u64::from(greatest_weight(part, end)));
+        let greatest_weight = u64::from(greatest_weight(part, end));
+        worklist.space(greatest_weight);
         Ok(Local {
             values,
             before,
             counters,
             worklist,
             fallen: Fallen::new(alloc, owned)?,
+            greatest_weight,
         })
     }
 
@@ -147,6 +150,15 @@ impl Local {
         ensures { self.new ≡ self.old }
     {
         self.worklist.space(apart);
+    }
+
+    /// Says how far apart the values lie that wait at first, at most. Those that come later lie within the fragment's greatest
+    /// weight of one that waited. Like `space_shelves`, it changes no answer.
+    pub fn spread_shelves(&mut self, apart: u64)
+        ensures { self.new ≡ self.old }
+    {
+        self.worklist
+            .space(apart.saturating_add(self.greatest_weight));
     }
 
     /// Puts the list of the places whose values changed since the last `load` or `settle` in rising order, where few did.
