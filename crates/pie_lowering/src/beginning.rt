@@ -52,12 +52,15 @@ pub fn space_by_mirrors<C: Cost>(part: &Fragment, local: &mut Local)
     }
 }
 
-/// Where values spread as they are, the shelves are spaced by the greatest value in the hand.
+/// Spaces the shelves by how far apart the values in the hand lie, so that places come from the least on. Values that spread
+/// as they are stay among those of the hand.
 pub fn space_by_hand<C: Cost>(local: &mut Local, hand: &Hand)
     ensures { local.new ≡ local.old }
 {
     if C::is_nothing() {
-        local.space_shelves(greatest_in(hand));
+        local.space_shelves(spread_of(hand));
+    } else {
+        local.spread_shelves(spread_of(hand));
     }
 }
 
@@ -70,12 +73,15 @@ fn greatest_of(values: &[u64]) -> u64 {
     greatest
 }
 
-/// The greatest value in a hand, and 0 where it is empty.
-fn greatest_in(hand: &Hand) -> u64 {
+/// How far apart the values in a hand lie, and 0 where it is empty.
+fn spread_of(hand: &Hand) -> u64 {
     let values = hand.values();
+    let mut least = u64::MAX;
     let mut greatest = 0;
     for mirror in hand.mirrors() {
-        greatest = greatest.max(values[*mirror as usize]);
+        let value = values[*mirror as usize];
+        least = least.min(value);
+        greatest = greatest.max(value);
     }
-    greatest
+    greatest.saturating_sub(least)
 }
