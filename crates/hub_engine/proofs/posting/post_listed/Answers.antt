@@ -1,7 +1,7 @@
-use Rattle.std.proofs.Common.{◌≡◌, ◌<◌, ◌∙◌, ℕ, List, length, slice_index, refl, sym, ap, arith, subst, All}
+use Rattle.std.proofs.Common.{◌<◌, ◌∙◌, ℕ, List, length, slice_index, refl, sym, ap, arith, subst, All}
 use Rattle.graph_core.specs.declared.fragment.Route.{Route}
 use Rattle.hub_engine.specs.Posting.{mirror_counts}
-use Rattle.hub_engine.proofs.Mailing.{AreMailed, mail_begins, mailed_counts, mailed_mails, mailed_can_begin, can_receive, row_leads, mail_ends, late_ends}
+use Rattle.hub_engine.proofs.Mailing.{mail_begins, mailed_counts, mailed_mails, mailed_can_begin, can_receive, row_leads, mail_ends, late_ends}
 use Rattle.hub_engine.proofs.Listed.{listed_none, listed_owned, listed_changed, listed_step, listed_ends}
 use Rattle.hub_engine.proofs.posting.post_listed.Goals as goal
 
