@@ -1,3 +1,4 @@
 pub mod LeastDist
 pub mod WorkedParts
 pub mod Readings
+pub mod Trees

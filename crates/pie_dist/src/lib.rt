@@ -5,15 +5,21 @@
 #![tactic(auto)]
 
 mod dist;
+mod heap;
 mod laws;
+mod rows;
 mod worked;
 
 pub use dist::Dist;
+pub use heap::NearHeap;
 pub use laws::dist_equations;
+pub use rows::{rows_clear, rows_lower, rows_pop};
 pub use worked::second_part_values;
 
 #[cfg(test)]
 mod compared;
+#[cfg(test)]
+mod heap_tests;
 #[cfg(test)]
 mod plain;
 #[cfg(test)]
