@@ -77,7 +77,7 @@ module _ (t u : ℕ → Bool) (p : ℕ) (agree : (q : ℕ) → q ≢ p → t q �
     one_more_passes a (suc n) l m = elim (cases_eq a p) [
       | inl e ↦ subst (λ b. IsPermutation (p ∷ filter t (range_with_len b (suc n))) (filter u (range_with_len b (suc n)))) (sym e) (here (filter t (range_with_len (p + 1) n)) (filter u (range_with_len (p + 1) n)) (beyond (p + 1) n (omega arith)))
       | inr d ↦ subst (λ c. IsPermutation (p ∷ filter t (range_with_len a (suc n))) (cond c (a ∷ filter u (range_with_len (a + 1) n)) (filter u (range_with_len (a + 1) n)))) (agree a d)
-        (there (t a) a (filter t (range_with_len (a + 1) n)) (filter u (range_with_len (a + 1) n)) (one_more_passes (a + 1) n (omega (arith, l, d)) (omega (arith, m))))
+          (there (t a) a (filter t (range_with_len (a + 1) n)) (filter u (range_with_len (a + 1) n)) (one_more_passes (a + 1) n (omega (arith, l, d)) (omega (arith, m))))
     ]
 
 -- ---- the list that is kept

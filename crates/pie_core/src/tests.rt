@@ -1,7 +1,7 @@
 ghost use Rattle.std.specs.Prelude.{◌≡◌, ◌∷◌, [], length, IfOk};
 
-use crate::fallen::Fallen;
 use crate::Local;
+use crate::fallen::Fallen;
 use crate::worklist::Worklist;
 use graph_core::{Fragment, FragmentParts, Reading, Rows};
 use std::alloc::Global;

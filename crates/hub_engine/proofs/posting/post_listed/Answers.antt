@@ -53,7 +53,7 @@ returns-clause-desks c =
     let old = c.args.local.now.before in
     let new = c.args.local.now.values in
     let ends = listed_ends c.args.sender old new c.args.routes.now c.args.places.now c.listed.place-index c.args.desks.now c.listed.desks c.args.cut.now c.listed.cut c.listed.begun
-        c.listed.invariant c.requires.listed c.listed-test.false c.requires.rows c.values-values.ensures.local.places in
+    c.listed.invariant c.requires.listed c.listed-test.false c.requires.rows c.values-values.ensures.local.places in
     mail_ends c.args.sender old new c.args.routes.now (length c.args.routes.now) c.args.desks.now c.listed.desks c.args.cut.now c.listed.cut c.listed.begun ends refl
 
 pub returns-clause-cut : goal.returns-clause-cut
@@ -61,5 +61,5 @@ returns-clause-cut c =
     let old = c.args.local.now.before in
     let new = c.args.local.now.values in
     let ends = listed_ends c.args.sender old new c.args.routes.now c.args.places.now c.listed.place-index c.args.desks.now c.listed.desks c.args.cut.now c.listed.cut c.listed.begun
-        c.listed.invariant c.requires.listed c.listed-test.false c.requires.rows c.values-values.ensures.local.places in
+    c.listed.invariant c.requires.listed c.listed-test.false c.requires.rows c.values-values.ensures.local.places in
     late_ends c.args.sender old new c.args.routes.now (length c.args.routes.now) c.args.desks.now c.listed.desks c.args.cut.now c.listed.cut c.listed.begun ends refl

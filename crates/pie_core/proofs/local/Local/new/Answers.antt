@@ -4,6 +4,8 @@ use Rattle.pie_core.proofs.FallenLists.{lists_zeros}
 use Rattle.pie_core.proofs.local.Local.new.Goals as goal
 
 pub invariant_of-result : goal.invariant_of-result
-invariant_of-result c =
-    (grind (arith, common_steps), grind (arith, common_steps),
-    lists_zeros c.in_ok-before.before.items c.in_ok-values.values.items (length c.owned-owned.result.now) c.in-Some.places c.in_ok-new.field-0 c.in_ok-before.ensures c.in_ok-values.ensures c.in_ok-new.ensures)
+invariant_of-result c = (
+  grind (arith, common_steps),
+  grind (arith, common_steps),
+  lists_zeros c.in_ok-before.before.items c.in_ok-values.values.items (length c.owned-owned.result.now) c.in-Some.places c.in_ok-new.field-0 c.in_ok-before.ensures c.in_ok-values.ensures c.in_ok-new.ensures,
+)
