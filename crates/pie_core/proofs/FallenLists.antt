@@ -1,5 +1,5 @@
 -- The places that fell, where one more falls, where none did, and where the list of them is sorted.
-use Rattle.std.proofs.Common.{◌≡◌, ◌≢◌, ℕ, zero, suc, ◌+◌, ◌<◌, ◌≤◌, ◌⊎◌, inl, inr, Bool, true, false, not, cond, ◌==◌, List, [], ◌∷◌, ◌++◌, length, take, replicate, get_or, slice_index, refl, sym, ◌∙◌, ap, subst, arith, Contains, All}
+use Rattle.std.proofs.Common.{◌≡◌, ◌≢◌, ℕ, zero, suc, ◌+◌, ◌<◌, ◌≤◌, ◌⊎◌, inl, inr, Bool, true, false, not, cond, ◌==◌, List, [], ◌∷◌, ◌++◌, length, take, replicate, slice_index, refl, sym, ◌∙◌, ap, subst, arith, Contains, All}
 use Rattle.std.specs.List.{filter, range_with_len}
 use Rattle.std.specs.List.Sorted.{IsPermutation, IsNonDecreasingBy}
 use Rattle.std.proofs.Math.ListN.{set}
@@ -8,10 +8,10 @@ use Rattle.std.proofs.lemmas.Bool.Decides.{nat_tests}
 use Rattle.std.proofs.lemmas.List.{get_or-replicate, get_or_past, length-replicate, take-append-le, take-take, get_or-set_same, get_or-set_other, length-set, length-take, get_or-take, get_or_default}
 use Rattle.std.proofs.lemmas.Grind.{same_number_lists}
 use Rattle.std.proofs.lemmas.List.Elements.{All-filter, All-nil, All-cons}
-use Rattle.std.proofs.lemmas.List.Sorted.{IsPermutation-refl, IsPermutation-sym, IsPermutation-trans, IsPermutation-cons, IsPermutation-push_more, IsPermutation-to_front, Contains-permutation, All-permutation, sum_by-IsPermutation}
+use Rattle.std.proofs.lemmas.List.Sorted.{IsPermutation-refl, IsPermutation-sym, IsPermutation-trans, IsPermutation-cons, IsPermutation-push_more, Contains-permutation, All-permutation, sum_by-IsPermutation}
 use Rattle.graph_core.proofs.Lists.{contains_here, contains_later}
 use Rattle.pie_core.specs.FallenPlaces.{has_fallen, fallen_since, none_fallen, FallenList, ListsFallen}
-use Rattle.pie_core.proofs.Rising.{RisesFrom, rising_same, rises_when_sorted, range_rises}
+use Rattle.pie_core.proofs.Rising.{rising_same, rises_when_sorted, range_rises}
 
 -- ---- numbers of a range that pass a test
 
@@ -167,14 +167,6 @@ module _ (before values : List ℕ) where
         → (new.is_kept ≡ true → (list.is_kept ≡ true) × (new.places ≡ list.places ++ place ∷ [])) → new.is_sorted ≡ false → ListsFallen before (set values place value) new
     note_added new m l was is =
         lists_added new l (same_value (slice_index before place) (slice_index values place) (sym was)) (other_value (slice_index before place) (slice_index (set values place value) place) (λ e. is (sym (e ∙ at_place m))))
-
-    pub note_same : place < length values → slice_index values place ≡ slice_index before place → value ≡ slice_index before place → ListsFallen before (set values place value) list
-    note_same m was is =
-        lists_same (λ l. same_value (slice_index before place) (slice_index values place) (sym was) ∙ sym (same_value (slice_index before place) (slice_index (set values place value) place) (sym (at_place m ∙ is))))
-
-    pub note_other : place < length values → slice_index values place ≢ slice_index before place → value ≢ slice_index before place → ListsFallen before (set values place value) list
-    note_other m was is =
-        lists_same (λ l. other_value (slice_index before place) (slice_index values place) (λ e. was (sym e)) ∙ sym (other_value (slice_index before place) (slice_index (set values place value) place) (λ e. is (sym (e ∙ at_place m)))))
 
 -- no place fell where all values are 0
 zero_at : (n p : ℕ) → slice_index (replicate n 0) p ≡ 0

@@ -1,6 +1,3 @@
-use Rattle.std.proofs.Common.{◌≡◌, ◌∙◌, true, sym}
-use Rattle.std.proofs.lemmas.List.Sorted.{IsPermutation-trans}
-use Rattle.pie_core.specs.FallenPlaces.{fallen_since}
 use Rattle.pie_core.proofs.FallenLists.{lists_sorted}
 use Rattle.pie_core.proofs.local.Local.gather_fallen.Goals as goal
 

@@ -1,4 +1,4 @@
-use Rattle.std.proofs.Common.{◌≡◌, ◌≤◌, ◌∙◌, ℕ, List, length, take, drop, ap, subst, sym, arith}
+use Rattle.std.proofs.Common.{◌≤◌, ◌∙◌, ℕ, List, length, take, drop, ap, subst, sym}
 use Rattle.pie_core.proofs.FallenLists.{lists_copied}
 use Rattle.pie_core.proofs.local.Local.settle.Goals as goal
 
