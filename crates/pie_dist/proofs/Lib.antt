@@ -2,3 +2,4 @@ pub mod LeastDist
 pub mod WorkedParts
 pub mod Readings
 pub mod Trees
+pub mod TakenMirrors

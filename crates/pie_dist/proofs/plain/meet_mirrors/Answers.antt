@@ -1,7 +1,8 @@
 use Rattle.std.proofs.Common.{◌≡◌, ◌+◌, ◌<◌, sym, ◌∙◌, ap, arith, length, take, slice_index}
 use Rattle.pie_core.specs.Locals.{LocalValues}
 use Rattle.pie_lowering.specs.Lowering.{with_mirrors}
-use Rattle.pie_lowering.proofs.Mirrors.{mirror_met, no-mirrors, mirrors-more, lowered-length}
+use Rattle.pie_lowering.proofs.Mirrors.{mirror_met, lowered-length}
+use Rattle.pie_dist.proofs.TakenMirrors.{no-mirrors, mirrors-more}
 use Rattle.pie_dist.proofs.plain.meet_mirrors.Goals as goal
 
 pub hand-init : goal.hand-init
