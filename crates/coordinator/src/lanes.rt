@@ -34,7 +34,7 @@ use grape_hub::{
     Duty, Hub, calm_is_empty, kepts_follow_seals, notes_tell, nothing_is_sealed, turns_are_calm,
 };
 use graph_core::{Fragment, Job, Query};
-use lane_loop::{Gate, LaneEnd, Served, lane, turn};
+use lane_loop::{EVENTS_A_VISIT, Gate, LaneEnd, Served, lane, pause, visit};
 use noted_lock::{LockSeat, NotedLock};
 use pie_core::Pie;
 use pie_dist::Dist;
@@ -499,7 +499,7 @@ fn coordinate<R: Wait, P: Pie, D: Disk, Q: Pacer, G: Gate>(
     leave
 }
 
-/// Takes the duties, and where there is none a turn of lane 0, until lane 0 has ended or a snapshot can't be kept. Lane
+/// Takes the duties, and where there is none a visit of lane 0, until lane 0 has ended or a snapshot can't be kept. Lane
 /// 0 also has a turn where a duty found the journal ended or stopped the run, so that its record tells of it.
 fn take_duties<R: Wait, P: Pie, D: Disk, Q: Pacer, G: Gate>(
     rt: &R,
@@ -531,6 +531,7 @@ fn take_duties<R: Wait, P: Pie, D: Disk, Q: Pacer, G: Gate>(
 {
     let mut own = own;
     let mut first = first;
+    let mut idle = 0;
     'turns: for _ in rt.forever() {
         let (leave, served, back, again) = coordinator_turn(
             rt, lock, own, first, job, fragments, shape, program, gate, keeper, disk,
@@ -538,15 +539,15 @@ fn take_duties<R: Wait, P: Pie, D: Disk, Q: Pacer, G: Gate>(
         own = back;
         first = again;
         match served {
-            Served::Did => {}
-            Served::Idle => lock.rest(rt),
+            Served::Did => idle = 0,
+            Served::Idle => idle = pause(rt, idle),
             Served::Ended | Served::NoMemory => return (leave, own, first),
         }
     }
     unreachable!()
 }
 
-/// A duty with what a Seal asks for, and where that appended no event a turn of lane 0, which then answers. Where a
+/// A duty with what a Seal asks for, and where that appended no event a visit of lane 0, which then answers. Where a
 /// snapshot that was sealed can't be kept, lane 0 goes on until it has ended.
 fn coordinator_turn<R: Wait, P: Pie, D: Disk, Q: Pacer, G: Gate>(
     rt: &R,
@@ -587,7 +588,16 @@ fn coordinator_turn<R: Wait, P: Pie, D: Disk, Q: Pacer, G: Gate>(
             }
         },
         Duty::Nothing | Duty::Ended | Duty::NoMemory => {
-            let (served, first) = turn(rt, lock, first, 0, program, fragments, gate);
+            let (served, first) = visit(
+                rt,
+                lock,
+                first,
+                0,
+                program,
+                fragments,
+                gate,
+                EVENTS_A_VISIT,
+            );
             (Leave::AllKept, served, own, first)
         }
     }

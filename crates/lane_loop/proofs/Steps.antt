@@ -1,6 +1,6 @@
 -- What a lane's steps at the hub do to its note.
-use Rattle.std.proofs.Common.{◌≡◌, ℕ, ◌+◌, ◌-◌, ◌^◌, ◌<◌, ◌≤◌, min, Bool, true, false, ◌==◌, MatchBool, refl, sym, ◌∙◌, ap, subst, arith, List, [], ◌∷◌, ◌++◌, length, reverse, slice_index_or, slice_set}
-use Rattle.std.proofs.lemmas.Bool.{false≢true}
+use Rattle.std.proofs.Common.{◌≡◌, ℕ, ◌+◌, ◌-◌, ◌^◌, ◌<◌, ◌≤◌, ◌⊎◌, inl, inr, min, Bool, true, false, ◌==◌, MatchBool, refl, sym, ◌∙◌, ap, subst, arith, List, [], ◌∷◌, ◌++◌, length, reverse, slice_index_or, slice_set}
+use Rattle.std.proofs.lemmas.Bool.{false≢true, cases_lt}
 use Rattle.std.proofs.lemmas.List.{get_or-set_same}
 use Rattle.graph_core.specs.declared.job.Job.{Job}
 use Rattle.grape_event.specs.declared.event.Event.{Event}
@@ -17,7 +17,7 @@ use Rattle.grape_hub.specs.declared.lane_record.LaneRecord.{LaneRecord}
 use Rattle.grape_hub.specs.LanedHub.{LanedHub, lane_at, is_out_at, no_record, answer_of, after_answer, after_give, lanes_after_answer, lanes_after_give, IsLanedHub}
 use Rattle.grape_hub.specs.Notes.{ground_of, ground_in, calls_in, answer_in, note_of, HasNoWork}
 use Rattle.grape_hub.specs.Theorems.{GroundsTell, NotesBegin, EmptyIsFree, RecordsTell, WorksTell}
-use Rattle.lane_loop.specs.Turns.{IsOutIn, HasLane, HasEvaluated, IsOutWhereTook, lacks_memory, StopsForMemory, ChoosesOrStops}
+use Rattle.lane_loop.specs.Turns.{IsOutIn, HasLane, HasCalled, HasEvaluated, IsOutWhereTook, lacks_memory, StopsForMemory, ChoosesOrStops}
 
 -- ---- the ground
 
@@ -102,6 +102,43 @@ answered begin free records x y counters lane r stood stands l counted chosen re
 pub answered_still : (before between after : List ℕ) (counters : Job → ℕ) (lane : ℕ) (r : Next) → after ≡ between → HasAnswered before between counters lane r → HasAnswered before after counters lane r
 answered_still before between after counters lane r same has = subst (λ (n : List ℕ). HasAnswered before n counters lane r) (sym same) has
 
+-- ---- several calls of next
+
+pub has_lane : (lane : ℕ) (before after : List ℕ) → ground_in after ≡ ground_in before → HasLane lane before → HasLane lane after
+has_lane lane before after same (job, start, ground, l) = (job, start, same ∙ ground, l)
+
+-- the note after one to `most` calls of next, of which this is the last answer
+pub record HasVisited (before after : List ℕ) (counters : Job → ℕ) (most lane : ℕ) (r : Next) : Type 0 where
+  pub ground : ground_in after ≡ ground_in before
+  pub calls : HasCalled most (calls_in before) (calls_in after)
+  pub answer : answer_in after ≡ answer_of r
+  pub out : IsOutWhereTook counters lane after r
+
+rises_by : (first before calls after : ℕ) → (before + calls < 2 ^ 64 - 1) ⊎ (2 ^ 64 - 1 ≤ before + calls) → first ≤ before → 1 ≤ calls → after ≡ min (before + calls) (2 ^ 64 - 1) → (first < after) ⊎ (after ≡ 2 ^ 64 - 1)
+rises_by first before calls after (inl below) l some e = inl (omega (arith, below, l, some, e))
+rises_by first before calls after (inr above) l some e = inr (omega (arith, above, e))
+
+rises : (first before calls after : ℕ) → first ≤ before → 1 ≤ calls → after ≡ min (before + calls) (2 ^ 64 - 1) → (first < after) ⊎ (after ≡ 2 ^ 64 - 1)
+rises first before calls after l some e = rises_by first before calls after (cases_lt (before + calls) (2 ^ 64 - 1)) l some e
+
+pub calls_once : (most before after : ℕ) → 1 ≤ most → after ≡ min (before + 1) (2 ^ 64 - 1) → HasCalled most before after
+calls_once most before after some e = (1, omega (arith), some, e)
+
+pub called_once : (before after : ℕ) → HasCalled 1 before after → after ≡ min (before + 1) (2 ^ 64 - 1)
+called_once before after (calls, some, few, e) = omega (arith, some, few, e)
+
+pub calls_more : (done before between after : ℕ) → HasCalled done before between → after ≡ min (between + 1) (2 ^ 64 - 1) → HasCalled (done + 1) before after
+calls_more done before between after (calls, some, few, e) more = (calls + 1, omega (arith, some), omega (arith, few), omega (arith, e, more))
+
+pub calls_within : (done most before after : ℕ) → done ≤ most → HasCalled done before after → HasCalled most before after
+calls_within done most before after l (calls, some, few, e) = (calls, some, omega (arith, few, l), e)
+
+-- the count rises, or stands at its greatest
+pub calls_rise : (most first before after : ℕ) → (first ≡ before) ⊎ ((first < before) ⊎ (before ≡ 2 ^ 64 - 1)) → HasCalled most before after → (first < after) ⊎ (after ≡ 2 ^ 64 - 1)
+calls_rise most first before after (inl same) (calls, some, few, e) = rises first before calls after (omega (arith, same)) some e
+calls_rise most first before after (inr (inl more)) (calls, some, few, e) = rises first before calls after (omega (arith, more)) some e
+calls_rise most first before after (inr (inr full)) (calls, some, few, e) = inr (omega (arith, full, e))
+
 -- ---- a Stop
 
 stops_if : (had : Bool) (old between new : HubValues) → Unchanged old between → MatchBool had (new ≡ between) (Appended between (Stop Memory) new) → MatchBool had (Unchanged old new) (Appended old (Stop Memory) new)
@@ -179,13 +216,13 @@ pub told_of : (x found : LanedHub) (number lane : ℕ) (note : List ℕ) → x �
 told_of x found number lane note same at tells = ap (λ (h : LanedHub). note_of h lane) same ∙ (ap (note_of found) (sym at) ∙ tells)
 
 -- What is said of the hub's notes is said of the seat's: it found this value, and left with the note of that one.
-pub seat_answered : (x found y : LanedHub) (counters : Job → ℕ) (lane number last : ℕ) (before after : List ℕ) (r q : Next) → r ≡ q → x ≡ found → number ≡ lane → note_of found number ≡ before → last ≡ number → after ≡ note_of y last →
-    HasAnswered (note_of x lane) (note_of y lane) counters lane r → HasAnswered before after counters lane q
-seat_answered x found y counters lane number last before after r q is same at tells stays left has =
+pub seat_visited : (x found y : LanedHub) (counters : Job → ℕ) (most lane number last : ℕ) (before after : List ℕ) (r q : Next) → r ≡ q → x ≡ found → number ≡ lane → note_of found number ≡ before → last ≡ number → after ≡ note_of y last →
+    HasVisited (note_of x lane) (note_of y lane) counters most lane r → HasVisited before after counters most lane q
+seat_visited x found y counters most lane number last before after r q is same at tells stays left has =
     let now = left ∙ ap (note_of y) (stays ∙ at) in
     let of_seat =
-    subst (λ (n : List ℕ). HasAnswered n after counters lane r) (told_of x found number lane before same at tells) (subst (λ (n : List ℕ). HasAnswered (note_of x lane) n counters lane r) (sym now) has) in
-    subst (λ (a : Next). HasAnswered before after counters lane a) is of_seat
+    subst (λ (n : List ℕ). HasVisited n after counters most lane r) (told_of x found number lane before same at tells) (subst (λ (n : List ℕ). HasVisited (note_of x lane) n counters most lane r) (sym now) has) in
+    subst (λ (a : Next). HasVisited before after counters most lane a) is of_seat
 
 pub out_at : (x : LanedHub) (counters : Job → ℕ) (lane : ℕ) (note told : List ℕ) → told ≡ note → IsOutIn x counters lane note → IsOutIn x counters lane told
 out_at x counters lane note told same out = subst (λ (n : List ℕ). IsOutIn x counters lane n) (sym same) out

@@ -1,5 +1,5 @@
 -- What a lane's seat says before and after a turn, and between its steps.
-use Rattle.std.specs.Prelude.{◌≡◌, ℕ, ◌<◌, ◌⊎◌, Bool, true, false, MatchBool, List, reverse}
+use Rattle.std.specs.Prelude.{◌≡◌, ℕ, ◌+◌, ◌-◌, ◌^◌, ◌<◌, ◌≤◌, ◌⊎◌, min, Bool, true, false, MatchBool, List, reverse}
 use Rattle.graph_core.specs.declared.job.Job.{Job}
 use Rattle.graph_core.specs.Parts.{FragmentLists}
 use Rattle.graph_core.specs.Fragments.{fragments_of}
@@ -32,6 +32,10 @@ Answers Did answer = (answer ≡ 1) ⊎ (answer ≡ 2)
 Answers Idle answer = answer ≡ 3
 Answers Ended answer = answer ≡ 4
 Answers NoMemory answer = answer ≡ 5
+
+-- The count of calls before and after one to `most` of them; it stays at the greatest number of 64 bits.
+abbrev pub HasCalled : ℕ → ℕ → ℕ → Type 0
+HasCalled most before after = (calls : ℕ) × (1 ≤ calls) × (calls ≤ most) × (after ≡ min (before + calls) (2 ^ 64 - 1))
 
 -- ---- between a Take and its Give
 

@@ -4,8 +4,9 @@ ghost use Rattle.grape_hub.specs.Notes.{ground_in, calls_in, answer_in, HasNoWor
 ghost use Rattle.lane_loop.specs.Turns.{IsOfJob};
 
 use crate::gate::Gate;
+use crate::patience::pause;
 use crate::served::Served;
-use crate::turns::turn;
+use crate::turns::visit;
 use delay_stretch::Pacer;
 use grape_hub::Hub;
 use graph_core::Fragment;
@@ -13,14 +14,18 @@ use noted_lock::{LockSeat, NotedLock};
 use pie_core::Pie;
 use std::sync::Wait;
 
+/// The most events that a lane appends in one visit of the lock. So a lane that lets a delay run out doesn't hand the lock
+/// round once an event, and others still have their turn.
+pub const EVENTS_A_VISIT: u32 = 64;
+
 /// What a lane gives back: its seat, whose record holds the answer with which it ended.
 #[derive(Drop)]
 pub struct LaneEnd {
     pub seat: LockSeat,
 }
 
-/// Takes turns until one answers `Ended` or `NoMemory`, and rests where one is `Idle`. Its conditions are those of
-/// [`turn`].
+/// Takes turns, up to [`EVENTS_A_VISIT`] of them in one visit of the lock, until one answers `Ended` or `NoMemory`, and
+/// rests where one is `Idle`, the longer the more of them there were. Its conditions are those of [`turn`](crate::turn).
 pub fn lane<R: Wait, P: Pie, Q: Pacer, G: Gate>(
     rt: &R,
     lock: &NotedLock<Hub<P, Q>>,
@@ -40,12 +45,22 @@ pub fn lane<R: Wait, P: Pie, Q: Pacer, G: Gate>(
     ensures answer { (answer_in (seat_note result.seat) ≡ 4) ⊎ (answer_in (seat_note result.seat) ≡ 5) }
 {
     let mut seat = seat;
+    let mut idle = 0;
     for _ in rt.forever() {
-        let (served, back) = turn(rt, lock, seat, lane, program, fragments, gate);
+        let (served, back) = visit(
+            rt,
+            lock,
+            seat,
+            lane,
+            program,
+            fragments,
+            gate,
+            EVENTS_A_VISIT,
+        );
         seat = back;
         match served {
-            Served::Did => {}
-            Served::Idle => lock.rest(rt),
+            Served::Did => idle = 0,
+            Served::Idle => idle = pause(rt, idle),
             Served::Ended | Served::NoMemory => return LaneEnd { seat },
         }
     }

@@ -1,10 +1,10 @@
-ghost use Rattle.std.specs.Prelude.{◌≡◌, ◌+◌, ◌-◌, ◌^◌, min};
+ghost use Rattle.std.specs.Prelude.{◌≡◌, ◌≤◌, ◌+◌, ◌-◌, ◌^◌, min};
 ghost use Rattle.noted_lock.specs.Sights.{lock_id, seat_lock, seat_number, seat_count, seat_note};
 ghost use Rattle.grape_event.specs.declared.event.Event.TheVariants.{Give};
 ghost use Rattle.hub_engine.specs.Calls.{AppendedUnlessEnded};
 ghost use Rattle.grape_hub.specs.LanedHub.{answer_of};
 ghost use Rattle.grape_hub.specs.Notes.{ground_in, calls_in, answer_in, note_of, HasNoWork, OthersStay};
-ghost use Rattle.lane_loop.specs.Turns.{HasLane, IsOfJob, Answers, HasOut, HasEvaluated, IsOutWhereTook, ChoosesOrStops, lacks_memory};
+ghost use Rattle.lane_loop.specs.Turns.{HasLane, IsOfJob, HasCalled, Answers, HasOut, HasEvaluated, IsOutWhereTook, ChoosesOrStops, lacks_memory};
 
 use crate::gate::Gate;
 use crate::served::Served;
@@ -16,10 +16,10 @@ use noted_lock::{LockSeat, NotedLock};
 use pie_core::{Pie, evaluate};
 use std::sync::Wait;
 
-/// One turn of a lane. It enters the lock, makes one `next` and leaves. Where that is a Take, the lane passes the gate,
-/// evaluates the Work (by PEval where it is its worker's first in the journal, and by IncEval where the hand isn't
-/// empty), enters once more and gives the Work back. Where there was no memory for the event it stops the run before it
-/// leaves.
+/// One turn of a lane: a [`visit`] of one event. It enters the lock, makes one `next` and leaves. Where that is a Take, the
+/// lane passes the gate, evaluates the Work (by PEval where it is its worker's first in the journal, and by IncEval where the
+/// hand isn't empty), enters once more and gives the Work back. Where there was no memory for the event it stops the run
+/// before it leaves.
 ///
 /// The seat is that of the lane, with no Work out, and its ground is that of the job whose fragments and program these
 /// are. It comes back likewise, with one call of `next` more in its record (up to `u64::MAX`), whose answer the turn's
@@ -42,8 +42,33 @@ pub fn turn<R: Wait, P: Pie, Q: Pacer, G: Gate>(
     ensures calls { calls_in (seat_note result.1) ≡ min (calls_in (seat_note seat) + 1) (2 ^ 64 - 1) }
     ensures answer { Answers result.0 (answer_in (seat_note result.1)) }
 {
+    visit(rt, lock, seat, lane, program, fragments, gate, 1)
+}
+
+/// The same with up to `most` events, 1 or more, in one visit of the lock: it makes a `next` again while the last one has
+/// appended an event that is no Take. The answer is that of the last.
+pub fn visit<R: Wait, P: Pie, Q: Pacer, G: Gate>(
+    rt: &R,
+    lock: &NotedLock<Hub<P, Q>>,
+    seat: LockSeat,
+    lane: u32,
+    program: &P,
+    fragments: &[Fragment],
+    gate: &G,
+    most: u32,
+) -> (Served, LockSeat)
+    requires some { 1 ≤ most }
+    requires seat { (seat_lock seat ≡ lock_id lock.now) × (seat_number seat ≡ lane) }
+    requires job { IsOfJob (P.is_for program.now) fragments.now lane (seat_note seat) }
+    requires empty { HasNoWork (seat_note seat) }
+    ensures seat { (seat_lock result.1 ≡ seat_lock seat) × (seat_number result.1 ≡ lane) × (seat_count result.1 ≡ seat_count seat) }
+    ensures ground { ground_in (seat_note result.1) ≡ ground_in (seat_note seat) }
+    ensures empty { HasNoWork (seat_note result.1) }
+    ensures calls { HasCalled most (calls_in (seat_note seat)) (calls_in (seat_note result.1)) }
+    ensures answer { Answers result.0 (answer_in (seat_note result.1)) }
+{
     let mut inside = lock.enter(rt, seat);
-    let answer = next_or_stop(inside.value(), lane);
+    let answer = next_events(inside.value(), lane, most);
     let seat = inside.leave();
     match answer {
         Next::Took(work) => {
@@ -55,6 +80,28 @@ pub fn turn<R: Wait, P: Pie, Q: Pacer, G: Gate>(
         Next::Ended => (Served::Ended, seat),
         Next::NoMemory => (Served::NoMemory, seat),
     }
+}
+
+/// The lane's next events, up to `most`, and to the first Take or call that appends none. Each is one that the hub chooses
+/// for the lane.
+fn next_events<P: Pie, Q: Pacer>(hub: &mut Hub<P, Q>, lane: u32, most: u32) -> Next
+    requires some { 1 ≤ most }
+    requires lane { HasLane lane (note_of hub.old lane) }
+    requires empty { HasNoWork (note_of hub.old lane) }
+    ensures ground { ground_in (note_of hub.new lane) ≡ ground_in (note_of hub.old lane) }
+    ensures calls { HasCalled most (calls_in (note_of hub.old lane)) (calls_in (note_of hub.new lane)) }
+    ensures answer { answer_in (note_of hub.new lane) ≡ answer_of result }
+    ensures out { IsOutWhereTook P.counters_for lane (note_of hub.new lane) result }
+    ensures others { OthersStay hub.old lane hub.new }
+{
+    let mut answer = next_or_stop(hub, lane);
+    'more: for _done in 1..most {
+        match answer {
+            Next::Did(_) => answer = next_or_stop(hub, lane),
+            last => return last,
+        }
+    }
+    answer
 }
 
 /// The lane's next event, and exactly one Stop where there is no memory for it; none where the journal had ended.

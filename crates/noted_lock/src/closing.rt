@@ -41,7 +41,7 @@ impl<T: Noted> NotedLock<T> {
         requires all { (k : ℕ) → k < lock_seats self → (s : LockSeat) × Contains seats.items s × (seat_number s ≡ k) }
         ensures notes { All (λ s. T.note result (seat_number s) ≡ seat_note s) seats.items }
     {
-        let NotedLock { table } = self;
+        let NotedLock { table, parked: _ } = self;
         let place = gather(&table.shared, seats);
         let mut closed = table.close_with(place);
         let slot = closed.take(0);

@@ -6,6 +6,7 @@ use crate::rule::{LockRule, Noted, Opening};
 use crate::view::View;
 use atomic_table::{Seat, Table};
 use std::alloc::Global;
+use std::sync::atomic::AtomicU64;
 
 /// A value that one seat at a time has.
 ///
@@ -14,6 +15,8 @@ use std::alloc::Global;
 #[derive(Drop)]
 pub struct NotedLock<T: Noted> {
     pub(crate) table: Table<Option<T>, View, Opening<T>, LockRule, Global>,
+    /// How many threads park until the turn is given back, or are about to. Where there are none nobody is woken.
+    pub(crate) parked: AtomicU64,
     ghost one_word: { table.shared.table_id.words ≡ 1 },
     ghost one_slot: { table.shared.table_id.slots ≡ 1 },
     ghost seated: { 0 < table.shared.key.seats },

@@ -12,6 +12,7 @@ use atomic_table::{Seat, Shared, Table};
 use grape_port::NoMemory;
 use std::alloc::Global;
 use std::snapshot::Snapshot;
+use std::sync::atomic::AtomicU64;
 
 // The seats from number 1 on, which are split off the seat that makes the lock.
 fn make_others<T: Noted>(
@@ -67,6 +68,7 @@ impl<T: Noted> NotedLock<T> {
             badge: first.into_badge(),
         };
         made.insert(0, seat)?;
-        Ok((NotedLock { table }, made))
+        let parked = AtomicU64::new(0);
+        Ok((NotedLock { table, parked }, made))
     }
 }

@@ -11,12 +11,17 @@ use crate::rule::{LockRule, Noted, Opening, Written};
 use crate::seat::LockSeat;
 use crate::view::View;
 use atomic_table::{Seat, Shared};
+use std::hint::spin_loop;
 use std::marker::Brand;
 use std::sync::Wait;
+use std::sync::atomic::Ordering;
 use std::time::Duration;
 
 // How long a seat parks at most before it tries again, though nobody woke it: in milliseconds.
 const PATIENCE: u64 = 1;
+
+// How often a seat looks whether the turn is free before it parks: for about a microsecond, since a turn is short.
+const LOOKS: u32 = 100;
 
 // Takes the turn where it is free: the seat is inside then, and has the slot with the value.
 fn take_turn<T: Noted>(
@@ -53,16 +58,42 @@ impl<T: Noted> NotedLock<T> {
                     held,
                 };
             }
-            desk.park_timeout(rt, 0, 1, Duration::from_millis(PATIENCE));
+            self.wait(rt);
         }
         unreachable!()
     }
 
+    // Waits until the turn may be free: it looks some times, and then it parks.
+    fn wait<R: Wait>(&self, rt: &R) {
+        'looks: for _ in 0..LOOKS {
+            if self.table.shared.peek(0) == 0 {
+                return;
+            }
+            spin_loop();
+        }
+        self.park(rt, 1);
+    }
+
+    // Parks while the turn stays so, for a millisecond at most.
+    fn park<R: Wait>(&self, rt: &R, turn: u32) {
+        self.parked.fetch_add(1, Ordering::SeqCst);
+        self.table
+            .shared
+            .park_timeout(rt, 0, turn, Duration::from_millis(PATIENCE));
+        self.parked.fetch_sub(1, Ordering::SeqCst);
+    }
+
+    // Wakes a thread that parks, where there is one. One that is about to park sees that the turn was given back.
+    fn wake(&self) {
+        if self.parked.load(Ordering::SeqCst) > 0 {
+            self.table.shared.wake_one(0);
+        }
+    }
+
     /// Parks while the turn stays as it is, for a millisecond at most. It may return at any time.
     pub fn rest<R: Wait>(&self, rt: &R) {
-        let desk = &self.table.shared;
-        let now = if desk.peek(0) == 0 { 0 } else { 1 };
-        desk.park_timeout(rt, 0, now, Duration::from_millis(PATIENCE));
+        let now = if self.table.shared.peek(0) == 0 { 0 } else { 1 };
+        self.park(rt, now);
     }
 }
 
@@ -99,7 +130,7 @@ impl<'a, T: Noted> Inside<'a, T> {
         record::<T, Brand>(desk, &mut seat, &held);
         desk.exchange(&mut seat, 0, Some(held));
         desk.store::<Give>(&mut seat, 0, 0);
-        desk.wake_one(0);
+        lock.wake();
         LockSeat {
             badge: seat.into_badge(),
         }

@@ -40,11 +40,11 @@ pub returns-in-Nothing : goal.returns-in-Nothing
 returns-in-Nothing g c =
     let d = g.D.Disk in
     let old = c.requires.first in
-    let seat = c.turn-served.ensures.seat in
+    let seat = c.visit-served.ensures.seat in
     record {
       own = c.duty_turn-duty.ensures.seat;
       ground = c.duty_turn-duty.ensures.ground;
-      first = record { lock = seat.0 ∙ old.lock; number = seat.1; ground = (old.ground.0, c.turn-served.ensures.ground ∙ old.ground.1); empty = λ _. c.turn-served.ensures.empty };
+      first = record { lock = seat.0 ∙ old.lock; number = seat.1; ground = (old.ground.0, c.visit-served.ensures.ground ∙ old.ground.1); empty = λ _. c.visit-served.ensures.empty };
       answer = search rules;
       used = used_same d.moment d.honest c.args.job.now c.args.disk.now;
       digest = refl;
