@@ -16,8 +16,16 @@ use value_order::{NOTHING, Order, meet};
 /// What a worker takes into one evaluation: for each mirror of its fragment the meet of the values that came, or
 /// `NOTHING` where none came. The mirrors with a value are in a list, so that an evaluation goes through these alone.
 /// Contracts see its order and the list of values.
+///
+/// It is one word, the lists lie behind it: a hand passes from the hub to a lane and back at each Take.
 #[derive(Drop)]
 pub struct Hand {
+    lists: Box<HandLists>,
+}
+
+/// What a `Hand` keeps.
+#[derive(Drop)]
+struct HandLists {
     order: Order,
     values: Vec<u64>,
     mirrors: Vec<u32>,
@@ -30,9 +38,9 @@ impl Model for Hand {
 
     ghost Value = { HandValues };
 
-    ghost view = { λ h. record { order = h.order; values = h.values.items } };
+    ghost view = { λ h. record { order = h.lists.value.order; values = h.lists.value.values.items } };
 
-    ghost invariant = { λ h. IsListed h.values.items h.mirrors.items (vec_capacity h.mirrors) };
+    ghost invariant = { λ h. IsListed h.lists.value.values.items h.lists.value.mirrors.items (vec_capacity h.lists.value.mirrors) };
 }
 
 impl Hand {
@@ -40,10 +48,13 @@ impl Hand {
     pub fn new(alloc: Global, order: Order, mirrors: u32) -> Result<Hand, NoMemory>
         ensures { IfOk result (λ hand. hand ≡ new_hand order mirrors) }
     {
-        Ok(Hand {
+        let lists = HandLists {
             order,
             values: vec![in alloc; NOTHING; mirrors as usize]?,
             mirrors: Vec::with_capacity(alloc, mirrors as usize)?,
+        };
+        Ok(Hand {
+            lists: Box::new(alloc, lists)?,
         })
     }
 
@@ -54,10 +65,11 @@ impl Hand {
         requires value { value ≢ NOTHING }
         ensures { self.new ≡ lowered_hand self.old mirror value }
     {
+        let lists = &mut *self.lists;
         let place = mirror as usize;
-        let before = self.values[place];
-        enlist(&mut self.mirrors, mirror, before);
-        self.values[place] = meet(self.order, before, value);
+        let before = lists.values[place];
+        enlist(&mut lists.mirrors, mirror, before);
+        lists.values[place] = meet(lists.order, before, value);
     }
 
     /// Trades its values and its list, emptied, for those of a buffer's untagged class, and takes the tagged values in.
@@ -78,15 +90,16 @@ impl Hand {
         ensures mirrors { mirrors.new.items ≡ [] }
         ensures room { length self.old.values ≤ vec_capacity mirrors.new }
     {
-        clear(&mut self.values, &self.mirrors);
-        self.mirrors.clear();
-        swap(&mut self.values, plain);
-        swap(&mut self.mirrors, mirrors);
+        let lists = &mut *self.lists;
+        clear(&mut lists.values, &lists.mirrors);
+        lists.mirrors.clear();
+        swap(&mut lists.values, plain);
+        swap(&mut lists.mirrors, mirrors);
         merge(
-            self.order,
-            &mut self.values,
+            lists.order,
+            &mut lists.values,
             tagged,
-            &self.mirrors,
+            &lists.mirrors,
             has_tagged,
         );
     }
@@ -95,20 +108,20 @@ impl Hand {
     pub fn values(&self) -> &[u64]
         ensures { result.now ≡ self.now.values }
     {
-        &self.values
+        &self.lists.values
     }
 
     /// The mirrors for which a message came, each once, in no order.
     pub fn mirrors(&self) -> &[u32]
         ensures { AreMirrorsOf self.now.values result.now }
     {
-        &self.mirrors
+        &self.lists.mirrors
     }
 
     /// Whether no message came at all.
     pub fn is_empty(&self) -> bool
         ensures { IsTrue result ↔ All (λ value. value ≡ NOTHING) self.now.values }
     {
-        self.mirrors.is_empty()
+        self.lists.mirrors.is_empty()
     }
 }
