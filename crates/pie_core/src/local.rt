@@ -16,8 +16,16 @@ use std::marker::Model;
 /// The values of all places of a fragment, and what a program needs to evaluate it: the owned values as they were
 /// before, counters of the program's own, and a worklist of owned places. All memory is taken by `new`: no
 /// other call has an answer for want of it. Contracts see these four lists.
+///
+/// It is one word, the lists lie behind it: a worker's values pass from the hub to a lane and back at each Take.
 #[derive(Drop)]
 pub struct Local {
+    lists: Box<Lists>,
+}
+
+/// What a `Local` keeps.
+#[derive(Drop)]
+struct Lists {
     values: Vec<u64>,
     before: Vec<u64>,
     counters: Vec<u64>,
@@ -33,9 +41,9 @@ impl Model for Local {
 
     ghost Value = { LocalValues };
 
-    ghost view = { λ l. record { values = l.values.items; before = l.before.items; counters = l.counters.items; waiting = l.worklist } };
+    ghost view = { λ l. record { values = l.lists.value.values.items; before = l.lists.value.before.items; counters = l.lists.value.counters.items; waiting = l.lists.value.worklist } };
 
-    ghost invariant = { λ l. (length l.worklist ≡ vec_len l.before) × (vec_len l.before ≤ vec_len l.values) × ListsFallen l.before.items l.values.items l.fallen };
+    ghost invariant = { λ l. (length l.lists.value.worklist ≡ vec_len l.lists.value.before) × (vec_len l.lists.value.before ≤ vec_len l.lists.value.values) × ListsFallen l.lists.value.before.items l.lists.value.values.items l.lists.value.fallen };
 }
 
 impl Local {
@@ -59,13 +67,16 @@ impl Local {
         let mut worklist = Worklist::new(alloc, owned)?;
         let greatest_weight = u64::from(greatest_weight(part, end));
         worklist.space(greatest_weight);
-        Ok(Local {
+        let lists = Lists {
             values,
             before,
             counters,
             worklist,
             fallen: Fallen::new(alloc, owned)?,
             greatest_weight,
+        };
+        Ok(Local {
+            lists: Box::new(alloc, lists)?,
         })
     }
 
@@ -74,9 +85,10 @@ impl Local {
         requires { length values.now ≡ length self.old.values }
         ensures { self.new ≡ loaded self.old values.now }
     {
-        self.values.copy_from_slice(values);
-        self.fallen.give_up();
-        self.settle();
+        let local = &mut *self.lists;
+        local.values.copy_from_slice(values);
+        local.fallen.give_up();
+        local.fallen.settle(&mut local.before, &local.values);
     }
 
     /// The values of all places: of the owned ones, and then of the mirrors.
@@ -84,21 +96,22 @@ impl Local {
         ensures values { result.now ≡ self.now.values }
         ensures local { IsLocal self.now }
     {
-        &self.values
+        &self.lists.values
     }
 
     /// The owned values at the last `load` or `settle`.
     pub fn before(&self) -> &[u64]
         ensures { result.now ≡ self.now.before }
     {
-        &self.before
+        &self.lists.before
     }
 
     /// Sets what `before` gives to the present owned values.
     pub fn settle(&mut self)
         ensures { self.new ≡ settled self.old }
     {
-        self.fallen.settle(&mut self.before, &self.values);
+        let lists = &mut *self.lists;
+        lists.fallen.settle(&mut lists.before, &lists.values);
     }
 
     /// Sets the value of a place.
@@ -106,10 +119,13 @@ impl Local {
         requires { place < length self.old.values }
         ensures { self.new ≡ with_value self.old place value }
     {
-        self.fallen.note(&self.before, &self.values, place, value);
-        let old = self.values[place as usize];
-        self.values[place as usize] = value;
-        self.worklist.moved(place, old, value);
+        let lists = &mut *self.lists;
+        lists
+            .fallen
+            .note(&lists.before, &lists.values, place, value);
+        let old = lists.values[place as usize];
+        lists.values[place as usize] = value;
+        lists.worklist.moved(place, old, value);
     }
 
     /// Puts an owned place on the worklist, where it isn't on it.
@@ -118,7 +134,8 @@ impl Local {
         ensures added { self.new ≡ with_waiting self.old place }
         ensures local { IsLocal self.new }
     {
-        self.worklist.push(place, self.values[place as usize]);
+        let lists = &mut *self.lists;
+        lists.worklist.push(place, lists.values[place as usize]);
     }
 
     /// Adds each place below `end`, all of them owned.
@@ -141,7 +158,7 @@ impl Local {
         ensures owned { IfSome result (λ place. place < length self.old.before) }
         ensures local { IsLocal self.new }
     {
-        self.worklist.pop()
+        self.lists.worklist.pop()
     }
 
     /// Says how far apart the values lie that wait at one time, at most. It changes no value and no answer, but which place
@@ -149,7 +166,7 @@ impl Local {
     pub fn space_shelves(&mut self, apart: u64)
         ensures { self.new ≡ self.old }
     {
-        self.worklist.space(apart);
+        self.lists.worklist.space(apart);
     }
 
     /// Says how far apart the values lie that wait at first, at most. Those that come later lie within the fragment's greatest
@@ -157,15 +174,17 @@ impl Local {
     pub fn spread_shelves(&mut self, apart: u64)
         ensures { self.new ≡ self.old }
     {
-        self.worklist
-            .space(apart.saturating_add(self.greatest_weight));
+        let lists = &mut *self.lists;
+        lists
+            .worklist
+            .space(apart.saturating_add(lists.greatest_weight));
     }
 
     /// Puts the list of the places whose values changed since the last `load` or `settle` in rising order, where few did.
     pub fn gather_fallen(&mut self)
         ensures { self.new ≡ self.old }
     {
-        self.fallen.sort();
+        self.lists.fallen.sort();
     }
 
     /// The owned places whose values aren't those of `before`, in rising order. `None` comes where many changed, or where
@@ -173,14 +192,14 @@ impl Local {
     pub fn fallen(&self) -> Option<&[u32]>
         ensures { IfSome result (λ places. places.now ≡ fallen_places self.now) }
     {
-        self.fallen.sorted()
+        self.lists.fallen.sorted()
     }
 
     /// The program's counters, those of the first owned place first.
     pub fn counters(&self) -> &[u64]
         ensures { result.now ≡ self.now.counters }
     {
-        &self.counters
+        &self.lists.counters
     }
 
     /// The program's counters, to be changed.
@@ -188,7 +207,7 @@ impl Local {
         ensures* writes_back { sem 𝓛 (LendsCounters self.entry result) }
         ensures value { result.now ≡ self.old.counters }
     {
-        &mut self.counters
+        &mut self.lists.counters
     }
 }
 
