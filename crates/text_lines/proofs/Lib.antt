@@ -7,4 +7,5 @@ pub mod Rising
 pub mod SortedKeys
 pub mod Searches
 pub mod Flags
+pub mod FlagWords
 pub mod LabelLemmas
