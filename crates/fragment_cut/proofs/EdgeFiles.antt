@@ -93,6 +93,15 @@ module _ (n : ℕ) where
 pub edges_filed_inside : (g : Digraph) (q : Query) → IsGraph g → All (λ x. x.row < count_of g) (flat_map (filed_by q) g.edges)
 edges_filed_inside g q h = λ k d l. (edges_inside (count_of g) q g.edges h.ends k d l).0
 
+pub edges_filed_placed : (g : Digraph) (q : Query) → IsGraph g → All (λ x. x.place < count_of g) (flat_map (filed_by q) g.edges)
+edges_filed_placed g q h = λ k d l. (edges_inside (count_of g) q g.edges h.ends k d l).1
+
+pub all_at : {X : Type 0} (f : X → ℕ) (xs ys : List X) (n m : ℕ) → xs ≡ ys → n ≡ m → All (λ x. f x < m) ys → All (λ x. f x < n) xs
+all_at f xs ys n m e g h =
+    let P : ℕ → Type 0 = λ k. All (λ x. f x < k) xs in
+    let Q : List _ → Type 0 = λ l. All (λ x. f x < m) l in
+    subst P (sym g) (subst Q (sym e) h)
+
 pub reads_made : (g : Digraph) (q : Query) (filed : List Filed) (n : ℕ) → filed ≡ flat_map (filed_by q) g.edges → n ≡ count_of g → table filed n ≡ reads_table g q
 reads_made g q filed n e f = ap (λ x. table x n) e ∙ ap (table (flat_map (filed_by q) g.edges)) f ∙ reads_table_is g q
 

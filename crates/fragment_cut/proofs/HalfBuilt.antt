@@ -1,5 +1,5 @@
 -- What the steps leave from which a fragment without routes is built.
-use Rattle.std.proofs.Common.{◌≡◌, ℕ, ◌<◌, List, ◌++◌, length, map, take, drop, slice_index, ◌∙◌, sym, ap, subst}
+use Rattle.std.proofs.Common.{◌≡◌, ℕ, ◌<◌, List, ◌++◌, length, map, take, drop, slice_index, ◌∙◌, ap}
 use Rattle.std.specs.Prelude.{All}
 use Rattle.std.proofs.lemmas.List.Elements.{All-map}
 use Rattle.std.proofs.lemmas.List.{length-map, take_at}
@@ -9,13 +9,8 @@ use Rattle.graph_core.specs.Graphs.{IsJob}
 use Rattle.graph_core.specs.Fragments.{owned_of, mirrors_of, places_of, readings_of, StandsAt}
 use Rattle.fragment_cut.specs.Filing.{Filed, table, reads_table, filed_rows, with_place, turned}
 use Rattle.fragment_cut.specs.Halves.{HalfLists, half_of}
+use Rattle.fragment_cut.proofs.EdgeFiles.{all_at}
 use Rattle.fragment_cut.proofs.Placing.{filed_owned, filed_placed, readings_are, readers_are}
-
-pub all_at : {X : Type 0} (f : X → ℕ) (xs ys : List X) (n m : ℕ) → xs ≡ ys → n ≡ m → All (λ x. f x < m) ys → All (λ x. f x < n) xs
-all_at f xs ys n m e g h =
-    let P : ℕ → Type 0 = λ k. All (λ x. f x < k) xs in
-    let Q : List _ → Type 0 = λ l. All (λ x. f x < m) l in
-    subst P (sym g) (subst Q (sym e) h)
 
 pub both_are : (us ws xs ys : List ℕ) → us ≡ xs → ws ≡ ys → us ++ ws ≡ xs ++ ys
 both_are us ws xs ys e f = ap (λ l. l ++ ws) e ∙ ap (λ l. xs ++ l) f

@@ -14,7 +14,7 @@ use Rattle.graph_core.proofs.Cutting as Cutting
 use Rattle.std.proofs.lemmas.List.{get_or_default}
 use Rattle.fragment_cut.specs.Halves.{HalfLists, half_of, whole}
 use Rattle.fragment_cut.specs.Routing.{routes_in, routes_table}
-use Rattle.fragment_cut.proofs.HalfBuilt.{all_at}
+use Rattle.fragment_cut.proofs.EdgeFiles.{all_at}
 use Rattle.fragment_cut.proofs.RouteTables.{half_at, halves_len, owned_routes, routes_len}
 
 -- one more item of a list by index

@@ -2,8 +2,10 @@ pub mod InOrder
 pub mod FiledRows
 pub mod SortedFiled
 pub mod EdgeFiles
+pub mod Turning
 pub mod Pieces
 pub mod Placing
+pub mod OnlyFragment
 pub mod HalfBuilt
 pub mod RouteTables
 pub mod Joining

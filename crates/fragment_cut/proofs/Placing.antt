@@ -1,22 +1,20 @@
 -- The tables of a fragment are the rows of its readings and readers.
-use Rattle.std.proofs.Common.{◌≡◌, ◌≢◌, ℕ, zero, suc, ◌+◌, ◌<◌, ◌≤◌, Bool, true, false, not, ◌&&◌, ◌||◌, cond, ◌==◌, List, [], ◌∷◌, ◌++◌, length, map, filter, flat_map, slice_index, slice_index_or, Contains, refl, ◌∙◌, sym, ap, subst, inl, inr, arith, Some, None, eq-eqb}
-use Rattle.std.specs.Prelude.{All, sum_by, nat_lt, option_to_list}
-use Rattle.std.specs.List.{AllByRecursion, range_with_len, list_any, position_or_len}
-use Rattle.std.proofs.lemmas.Bool.{ne_eqb, lt-ltb, cases_eq}
+use Rattle.std.proofs.Common.{◌≡◌, ◌≢◌, ℕ, zero, suc, ◌+◌, ◌<◌, ◌≤◌, Bool, true, false, not, ◌&&◌, ◌||◌, cond, ◌==◌, List, [], ◌∷◌, ◌++◌, length, map, filter, flat_map, slice_index, slice_index_or, Contains, refl, ◌∙◌, sym, ap, subst, inl, inr, arith, eq-eqb}
+use Rattle.std.specs.Prelude.{All, sum_by}
+use Rattle.std.specs.List.{AllByRecursion, range_with_len, list_any}
+use Rattle.std.proofs.lemmas.Bool.{ne_eqb, cases_eq}
 use Rattle.std.proofs.lemmas.List.{get_or_default}
-use Rattle.std.proofs.lemmas.List.FromFn.{fill_by_all, length-map-range_with_len, get_or-map-range_with_len, length-range_with_len}
-use Rattle.std.proofs.lemmas.List.Sums.{sum_by-cons, sum_by-append, position_or_len_is, length-filter, count_by-le-length}
+use Rattle.std.proofs.lemmas.List.FromFn.{length-map-range_with_len, get_or-map-range_with_len, length-range_with_len}
+use Rattle.std.proofs.lemmas.List.Sums.{length-filter, count_by-le-length}
 use Rattle.std.proofs.lemmas.List.Elements.{All-from_recursion}
-use Rattle.std.proofs.lemmas.List.Folds.{fold-map, list_any-append}
+use Rattle.std.proofs.lemmas.List.Folds.{list_any-append}
 use Rattle.graph_core.specs.declared.job.Job.{Job}
 use Rattle.graph_core.specs.declared.fragment.Reading.{Reading}
 use Rattle.graph_core.specs.Graphs.{count_of, IsJob}
 use Rattle.graph_core.specs.Queries.{Read, reads_of}
-use Rattle.graph_core.specs.Fragments.{owner, numbers_below, owned_of, mirrors_of, places_of, place_of, is_read_in, readings_of, readers_of, sorted_readings, insert_reading, comes_before, StandsAt, Piece, no_piece, piece_at, piece_of, pieces_of, places}
-use Rattle.graph_core.proofs.Lists.{contains_here, contains_later, contains_map}
-use Rattle.graph_core.proofs.Cutting as Cutting
+use Rattle.graph_core.specs.Fragments.{owner, numbers_below, owned_of, mirrors_of, places_of, place_of, is_read_in, readings_of, readers_of, sorted_readings, insert_reading, comes_before, StandsAt}
+use Rattle.graph_core.proofs.Lists.{contains_here, contains_later}
 use Rattle.fragment_cut.specs.Filing.{Filed, reading_of, filed_under, table, reading_at, reads_table, file_under, filed_rows, with_place, turned}
-use Rattle.fragment_cut.specs.Owners.{StandOnce}
 use Rattle.graph_core.proofs.Sums.{sum-map, sum-flat_map, sum-same, sum-zero, sum_one, sum_range_same, sum_range_one, by_places, sum_by_places, sum_by-sorted_readings}
 use Rattle.graph_core.proofs.FragmentPlaces.{places_once, places_inside, read_stands, place_is, owned_placed}
 use Rattle.fragment_cut.proofs.InOrder.{SameSums, sorted_same}
@@ -31,7 +29,7 @@ map_by_places f xs = ends (numbers_below (length xs)) ∙ ap (map f) (by_places 
     ends [] = refl
     ends (p ∷ ps) = ap (λ l. f (slice_index xs p) ∷ l) (ends ps)
 
-map_range_same : {Y : Type 0} (f g : ℕ → Y) (a n : ℕ) → ((k : ℕ) → a ≤ k → k < a + n → f k ≡ g k) → map f (range_with_len a n) ≡ map g (range_with_len a n)
+pub map_range_same : {Y : Type 0} (f g : ℕ → Y) (a n : ℕ) → ((k : ℕ) → a ≤ k → k < a + n → f k ≡ g k) → map f (range_with_len a n) ≡ map g (range_with_len a n)
 map_range_same f g a zero h = refl
 map_range_same f g a (suc n) h = ap (λ y. y ∷ map f (range_with_len (a + 1) n)) (h a (omega arith) (omega arith)) ∙ ap (λ l. g a ∷ l) (map_range_same f g (a + 1) n (λ k l m. h k (omega (arith, l)) (omega (arith, m))))
 

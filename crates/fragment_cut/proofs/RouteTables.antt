@@ -25,7 +25,7 @@ use Rattle.fragment_cut.proofs.EdgeFiles.{under-append}
 use Rattle.fragment_cut.specs.Halves.{HalfLists, half_of}
 use Rattle.fragment_cut.proofs.Pieces.{numbers_more}
 use Rattle.fragment_cut.proofs.Placing.{every-rows}
-use Rattle.fragment_cut.proofs.HalfBuilt.{all_at}
+use Rattle.fragment_cut.proofs.EdgeFiles.{all_at}
 
 -- ---- one fragment
 

@@ -2,14 +2,14 @@ ghost use Rattle.std.specs.Prelude.{◌≡◌, map, length, IfOk};
 ghost use Rattle.graph_core.specs.Graphs.{count_of, IsJob};
 ghost use Rattle.graph_core.specs.Fragments.{numbers_below, fragments_of};
 ghost use Rattle.fragment_cut.specs.Cut.{EachEquationOnce};
-ghost use Rattle.fragment_cut.specs.Filing.{reads_table};
+ghost use Rattle.fragment_cut.specs.Filing.{reads_table, readers_table};
 ghost use Rattle.fragment_cut.specs.Halves.{half_of};
 ghost use Rattle.fragment_cut.specs.Owners.{owners_of};
 ghost use Rattle.fragment_cut.specs.Routing.{routes_table};
 
 use crate::half::Half;
 use crate::owner::owner_of;
-use crate::reads::reads_table;
+use crate::reads::{readers_table, reads_table};
 use crate::routing::{routes_by, routes_table};
 use grape_port::NoMemory;
 use graph_core::{Fragment, Job, Reading, Rows};
@@ -29,8 +29,22 @@ fn owners(alloc: Global, job: &Job) -> Result<Vec<u32>, NoMemory>
     Ok(owners)
 }
 
-/// The fragments, but for their routes.
-fn halves(alloc: Global, job: &Job) -> Result<Vec<Half>, NoMemory>
+/// The only fragment, but for its routes.
+fn only_half(alloc: Global, job: &Job) -> Result<Vec<Half>, NoMemory>
+    requires job { IsJob job.now }
+    requires fragments { job.now.settings.fragments ≡ 1 }
+    ensures { IfOk result (λ halves. halves.items ≡ map (half_of job.now) (numbers_below job.now.settings.fragments)) }
+{
+    let readers = readers_table(alloc, job)?;
+    let reads = reads_table(alloc, job)?;
+    let half = Half::only(alloc, job, reads, readers)?;
+    let mut halves = Vec::new(alloc);
+    halves.push(half)?;
+    Ok(halves)
+}
+
+/// The fragments of which there are several, but for their routes.
+fn several_halves(alloc: Global, job: &Job) -> Result<Vec<Half>, NoMemory>
     requires { IsJob job.now }
     ensures { IfOk result (λ halves. halves.items ≡ map (half_of job.now) (numbers_below job.now.settings.fragments)) }
 {
@@ -43,6 +57,18 @@ fn halves(alloc: Global, job: &Job) -> Result<Vec<Half>, NoMemory>
         halves.push(half)?;
     }
     Ok(halves)
+}
+
+/// The fragments, but for their routes.
+fn halves(alloc: Global, job: &Job) -> Result<Vec<Half>, NoMemory>
+    requires { IsJob job.now }
+    ensures { IfOk result (λ halves. halves.items ≡ map (half_of job.now) (numbers_below job.now.settings.fragments)) }
+{
+    if job.settings.fragments == 1 {
+        only_half(alloc, job)
+    } else {
+        several_halves(alloc, job)
+    }
 }
 
 /// The fragments of their halves.

@@ -4,8 +4,9 @@ ghost use Rattle.std.specs.List.Sorted.{IsNonDecreasingBy};
 ghost use Rattle.fragment_cut.specs.Filing.{table, rows_under, reading_of, Filed};
 
 use crate::filing::Filed;
+use crate::ordering::bring_into_order;
 use grape_port::NoMemory;
-use graph_core::{Reading, Rows, sort_in_groups};
+use graph_core::{Reading, Rows};
 use std::alloc::Global;
 
 /// The readings by themselves, in the same order.
@@ -56,11 +57,11 @@ fn rows_of(alloc: Global, filed: &[Filed], rows: u32) -> Result<Rows<Reading>, N
 
 /// A row for each number below `rows`, with the readings that are filed under it, in order.
 ///
-/// It takes the time of a sort, and brings the entries into order.
+/// It takes the time of a sort, but where the entries stand in order that of a pass. It brings them into order.
 pub fn table_of(alloc: Global, filed: &mut [Filed], rows: u32) -> Result<Rows<Reading>, NoMemory>
     requires { All (λ entry. entry.row < rows) filed.old }
     ensures { IfOk result (λ made. made ≡ table filed.old rows) }
 {
-    sort_in_groups(filed);
+    bring_into_order(filed);
     rows_of(alloc, filed, rows)
 }

@@ -1,8 +1,8 @@
 ghost use Rattle.std.specs.Prelude.{◌≡◌, ◌<◌, ◌≤◌, ◌^◌, ◌+◌, ◌++◌, ℕ, map, length, IfOk, All, slice_index};
 ghost use Rattle.graph_core.specs.Graphs.{count_of, IsJob};
 ghost use Rattle.graph_core.specs.Parts.{IsFragment};
-ghost use Rattle.graph_core.specs.Fragments.{owned_of, mirrors_of, places_of, StandsAt};
-ghost use Rattle.fragment_cut.specs.Filing.{reads_table, filed_rows, with_place};
+ghost use Rattle.graph_core.specs.Fragments.{numbers_below, owned_of, mirrors_of, places_of, StandsAt};
+ghost use Rattle.fragment_cut.specs.Filing.{reads_table, readers_table, filed_rows, with_place};
 ghost use Rattle.fragment_cut.specs.Owners.{owners_of, StandOnce};
 
 use crate::filed::table_of;
@@ -74,6 +74,17 @@ fn placed_reads(owned: &[u32], mirrors: &[u32], places: &mut [u32], filed: &mut 
     place_reads(places, filed);
 }
 
+/// The numbers from 0 up to this one.
+fn all_below(alloc: Global, count: u32) -> Result<Vec<u32>, NoMemory>
+    ensures { IfOk result (λ numbers. numbers.items ≡ numbers_below count) }
+{
+    let mut numbers = Vec::with_capacity(alloc, count as usize)?;
+    for number in 0..count {
+        numbers.push(number)?;
+    }
+    Ok(numbers)
+}
+
 impl Half {
     ghost use Rattle.fragment_cut.specs.Halves.{half_of, whole};
 
@@ -105,6 +116,28 @@ impl Half {
             owned,
             mirrors,
             readings,
+            readers,
+        })
+    }
+
+    /// The only fragment of a job, but for its routes. `reads` and `readers` are those of the whole graph.
+    pub fn only(
+        alloc: Global,
+        job: &Job,
+        reads: Rows<Reading>,
+        readers: Rows<Reading>,
+    ) -> Result<Half, NoMemory>
+        requires job { IsJob job.now }
+        requires fragments { job.now.settings.fragments ≡ 1 }
+        requires reads { reads ≡ reads_table job.now.graph job.now.query }
+        requires readers { readers ≡ readers_table job.now.graph job.now.query }
+        ensures { IfOk result (λ half. half ≡ half_of job.now 0) }
+    {
+        let owned = all_below(alloc, job.graph.count())?;
+        Ok(Half {
+            owned,
+            mirrors: Vec::new(alloc),
+            readings: reads,
             readers,
         })
     }

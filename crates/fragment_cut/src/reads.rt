@@ -1,9 +1,10 @@
-ghost use Rattle.std.specs.Prelude.{◌≡◌, ◌++◌, flat_map, OnOk, IfOk};
+ghost use Rattle.std.specs.Prelude.{◌≡◌, ◌++◌, map, flat_map, OnOk, IfOk};
 ghost use Rattle.graph_core.specs.Graphs.{IsGraph};
-ghost use Rattle.fragment_cut.specs.Filing.{filed_by, reads_table};
+ghost use Rattle.fragment_cut.specs.Filing.{filed_by, turned, reads_table, readers_table};
 
 use crate::filed::table_of;
 use crate::filing::Filed;
+use crate::piece::turned_of;
 use grape_port::NoMemory;
 use graph_core::{Edge, Job, Query, Reading, Rows};
 use std::alloc::Global;
@@ -53,5 +54,22 @@ pub fn reads_table(alloc: Global, job: &Job) -> Result<Rows<Reading>, NoMemory>
     ensures { IfOk result (λ reads. reads ≡ reads_table job.now.graph job.now.query) }
 {
     let mut filed = filed_edges(alloc, &job.query, job.graph.edges())?;
+    table_of(alloc, &mut filed, job.graph.count())
+}
+
+/// What is read along the edges, filed under the vertices that are read.
+fn turned_edges(alloc: Global, query: &Query, edges: &[Edge]) -> Result<Vec<Filed>, NoMemory>
+    ensures { IfOk result (λ filed. filed.items ≡ map turned (flat_map (filed_by query.now) edges.now)) }
+{
+    let filed = filed_edges(alloc, query, edges)?;
+    turned_of(alloc, &filed)
+}
+
+/// By whom each vertex is read, with vertex indexes for places, in order of reader and weight.
+pub fn readers_table(alloc: Global, job: &Job) -> Result<Rows<Reading>, NoMemory>
+    requires { IsGraph job.now.graph }
+    ensures { IfOk result (λ readers. readers ≡ readers_table job.now.graph job.now.query) }
+{
+    let mut filed = turned_edges(alloc, &job.query, job.graph.edges())?;
     table_of(alloc, &mut filed, job.graph.count())
 }

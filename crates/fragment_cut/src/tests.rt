@@ -194,6 +194,21 @@ fn cuts_loops_and_repeated_edges(rt: HostRuntime) -> Result<(), Fail> {
 }
 
 #[test]
+fn one_fragment_has_all(rt: HostRuntime) -> Result<(), Fail> {
+    let parts = fragment(rt.alloc(), &job(loops(rt.alloc())?, Query::Dist(1), 1))?;
+    assert_eq!(rt; parts.len(), 1);
+    let part = &parts[0];
+    check_vertices(&rt, part, &[0, 1, 2], &[]);
+    check_readings(&rt, part, 0, &[reading(0, 7), reading(2, 2)]);
+    check_readings(&rt, part, 1, &[reading(0, 4), reading(0, 4)]);
+    let row = [reading(0, 7), reading(1, 4), reading(1, 4)];
+    check_readers(&rt, part, 0, &row);
+    check_readers(&rt, part, 2, &[reading(0, 2)]);
+    check_routes(&rt, part, 0, &[]);
+    Ok(())
+}
+
+#[test]
 fn leaves_fragments_empty(rt: HostRuntime) -> Result<(), Fail> {
     let graph = Graph::build(rt.alloc(), &[(4, 0), (9, 0)], &[edge(4, 9, 3)])?;
     let parts = fragment(rt.alloc(), &job(graph, Query::Reach(4), 64))?;

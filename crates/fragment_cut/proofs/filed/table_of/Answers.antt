@@ -7,14 +7,14 @@ use Rattle.fragment_cut.proofs.SortedFiled.{rows_rise, table_is}
 use Rattle.fragment_cut.proofs.filed.table_of.Goals as goal
 
 pub rows_of-requires-clause-rising : goal.rows_of-requires-clause-rising
-rows_of-requires-clause-rising c = rows_rise c.sort_in_groups.new.items c.sort_in_groups.ensures.sorted
+rows_of-requires-clause-rising c = rows_rise c.bring_into_order.new.items c.bring_into_order.ensures.sorted
 
 pub rows_of-requires-clause-in_range : goal.rows_of-requires-clause-in_range
 rows_of-requires-clause-in_range c =
     let below : Filed → Type 0 = λ e. e.row < c.args.rows in
-    All-permutation below c.args.filed.now c.sort_in_groups.new.items c.sort_in_groups.ensures.permutation c.requires
+    All-permutation below c.args.filed.now c.bring_into_order.new.items c.bring_into_order.ensures.permutation c.requires
 
 pub returns : goal.returns
 returns c =
     subst (λ (t : List (List Reading)). IfOk c.rows_of.result (λ made. made ≡ t))
-    (table_is c.args.filed.now c.sort_in_groups.new.items c.args.rows c.sort_in_groups.ensures.permutation c.sort_in_groups.ensures.sorted) c.rows_of.ensures
+    (table_is c.args.filed.now c.bring_into_order.new.items c.args.rows c.bring_into_order.ensures.permutation c.bring_into_order.ensures.sorted) c.rows_of.ensures

@@ -7,7 +7,8 @@ use Rattle.fragment_cut.specs.Filing.{Filed, reads_table, filed_rows, with_place
 use Rattle.fragment_cut.specs.Owners.{StandOnce}
 use Rattle.graph_core.proofs.FragmentPlaces.{places_once}
 use Rattle.fragment_cut.proofs.Placing.{few_owned, few_mirrors, all_owned_inside, all_places_inside, filed_inside}
-use Rattle.fragment_cut.proofs.HalfBuilt.{all_at, both_are, filed_is, placed_rows, turned_rows, half_is, written}
+use Rattle.fragment_cut.proofs.EdgeFiles.{all_at}
+use Rattle.fragment_cut.proofs.HalfBuilt.{both_are, filed_is, placed_rows, turned_rows, half_is, written}
 use Rattle.fragment_cut.proofs.half.Half.build.Goals as goal
 
 pub filed_reads-requires-clause-few : goal.filed_reads-requires-clause-few

@@ -1,7 +1,7 @@
 use Rattle.graph_core.specs.Graphs.{count_of}
 use Rattle.fragment_cut.specs.Halves.{half_of}
 use Rattle.fragment_cut.proofs.Joining.{push_more, still_long}
-use Rattle.fragment_cut.proofs.cutting.halves.Goals as goal
+use Rattle.fragment_cut.proofs.cutting.several_halves.Goals as goal
 
 pub loop-fragment-preserved : goal.loop-fragment-preserved
 loop-fragment-preserved c =

@@ -2,7 +2,7 @@ use Rattle.std.proofs.Common.{◌≡◌, map, length}
 use Rattle.graph_core.specs.Graphs.{count_of}
 use Rattle.graph_core.specs.Fragments.{numbers_below}
 use Rattle.fragment_cut.specs.Halves.{half_of}
-use Rattle.fragment_cut.proofs.cutting.halves.Given as goal
+use Rattle.fragment_cut.proofs.cutting.several_halves.Given as goal
 
 abbrev pub invariant-loop-fragment : goal.invariant-loop-fragment
 invariant-loop-fragment l = record {
