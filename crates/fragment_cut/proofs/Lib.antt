@@ -3,6 +3,7 @@ pub mod FiledRows
 pub mod SortedFiled
 pub mod EdgeFiles
 pub mod Turning
+pub mod EdgeRows
 pub mod Pieces
 pub mod Placing
 pub mod OnlyFragment

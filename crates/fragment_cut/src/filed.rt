@@ -1,4 +1,4 @@
-ghost use Rattle.std.specs.Prelude.{◌≡◌, ◌<◌, ◌≤◌, ◌-◌, ◌+◌, ◌≢◌, ℕ, map, length, vec_len, IfOk, All, slice_index_or};
+ghost use Rattle.std.specs.Prelude.{◌≡◌, ◌<◌, ◌≤◌, ◌-◌, ◌+◌, ◌≢◌, ℕ, map, length, IfOk, OnOk, All, slice_index_or};
 ghost use Rattle.std.specs.List.{range_with_len};
 ghost use Rattle.std.specs.List.Sorted.{IsNonDecreasingBy};
 ghost use Rattle.fragment_cut.specs.Filing.{table, rows_under, reading_of, Filed};
@@ -9,18 +9,18 @@ use grape_port::NoMemory;
 use graph_core::{Reading, Rows};
 use std::alloc::Global;
 
-/// The readings by themselves, in the same order.
-fn readings_of(alloc: Global, filed: &[Filed]) -> Result<Vec<Reading>, NoMemory>
-    ensures { IfOk result (λ readings. readings.items ≡ map reading_of filed.now) }
+/// Puts these readings in place of what the row holds.
+fn read_row(filed: &[Filed], row: &mut Vec<Reading>) -> Result<(), NoMemory>
+    ensures { OnOk result (row.new.items ≡ map reading_of filed.now) }
 {
-    let mut readings = Vec::with_capacity(alloc, filed.len())?;
+    row.clear();
     for entry in filed {
-        readings.push(Reading {
+        row.push(Reading {
             place: entry.place,
             weight: entry.weight,
         })?;
     }
-    Ok(readings)
+    Ok(())
 }
 
 /// The first index from `start` on whose entry belongs to another row.
@@ -44,12 +44,13 @@ fn rows_of(alloc: Global, filed: &[Filed], rows: u32) -> Result<Rows<Reading>, N
     requires in_range { All (λ entry. entry.row < rows) filed.now }
     ensures { IfOk result (λ made. made ≡ rows_under filed.now rows) }
 {
-    let readings = readings_of(alloc, filed)?;
+    let mut readings = Vec::new(alloc);
     let mut made = Rows::with_capacity(alloc, rows as usize, filed.len())?;
     let mut start = 0;
     for row in 0..rows {
         let end = end_of(filed, start, row);
-        made.push_row(&readings[start..end])?;
+        read_row(&filed[start..end], &mut readings)?;
+        made.push_row(&readings)?;
         start = end;
     }
     Ok(made)

@@ -9,6 +9,7 @@
 #![tactic(auto)]
 
 mod cutting;
+mod edge_rows;
 mod filed;
 mod filing;
 mod half;

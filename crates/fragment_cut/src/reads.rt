@@ -2,6 +2,7 @@ ghost use Rattle.std.specs.Prelude.{◌≡◌, ◌++◌, map, flat_map, OnOk, If
 ghost use Rattle.graph_core.specs.Graphs.{IsGraph};
 ghost use Rattle.fragment_cut.specs.Filing.{filed_by, turned, reads_table, readers_table};
 
+use crate::edge_rows::targets_table;
 use crate::filed::table_of;
 use crate::filing::Filed;
 use crate::piece::turned_of;
@@ -48,8 +49,8 @@ fn filed_edges(alloc: Global, query: &Query, edges: &[Edge]) -> Result<Vec<Filed
     Ok(filed)
 }
 
-/// What each vertex reads, with vertex indexes for places, in order of vertex and weight.
-pub fn reads_table(alloc: Global, job: &Job) -> Result<Rows<Reading>, NoMemory>
+/// What each vertex reads, by a sort.
+fn sorted_reads(alloc: Global, job: &Job) -> Result<Rows<Reading>, NoMemory>
     requires { IsGraph job.now.graph }
     ensures { IfOk result (λ reads. reads ≡ reads_table job.now.graph job.now.query) }
 {
@@ -65,11 +66,34 @@ fn turned_edges(alloc: Global, query: &Query, edges: &[Edge]) -> Result<Vec<File
     turned_of(alloc, &filed)
 }
 
-/// By whom each vertex is read, with vertex indexes for places, in order of reader and weight.
-pub fn readers_table(alloc: Global, job: &Job) -> Result<Rows<Reading>, NoMemory>
+/// By whom each vertex is read, by a sort.
+fn sorted_readers(alloc: Global, job: &Job) -> Result<Rows<Reading>, NoMemory>
     requires { IsGraph job.now.graph }
     ensures { IfOk result (λ readers. readers ≡ readers_table job.now.graph job.now.query) }
 {
     let mut filed = turned_edges(alloc, &job.query, job.graph.edges())?;
     table_of(alloc, &mut filed, job.graph.count())
+}
+
+/// What each vertex reads, with vertex indexes for places, in order of vertex and weight.
+pub fn reads_table(alloc: Global, job: &Job) -> Result<Rows<Reading>, NoMemory>
+    requires { IsGraph job.now.graph }
+    ensures { IfOk result (λ reads. reads ≡ reads_table job.now.graph job.now.query) }
+{
+    match &job.query {
+        Query::Sim(_) => targets_table(alloc, &job.graph),
+        _ => sorted_reads(alloc, job),
+    }
+}
+
+/// By whom each vertex is read, with vertex indexes for places, in order of reader and weight.
+pub fn readers_table(alloc: Global, job: &Job) -> Result<Rows<Reading>, NoMemory>
+    requires { IsGraph job.now.graph }
+    ensures { IfOk result (λ readers. readers ≡ readers_table job.now.graph job.now.query) }
+{
+    match &job.query {
+        Query::Dist(_) => targets_table(alloc, &job.graph),
+        Query::Reach(_) => targets_table(alloc, &job.graph),
+        _ => sorted_readers(alloc, job),
+    }
 }

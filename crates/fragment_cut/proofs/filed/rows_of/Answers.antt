@@ -1,4 +1,4 @@
-use Rattle.std.proofs.Common.{◌∙◌, ap, slice_range}
+use Rattle.std.proofs.Common.{◌∙◌}
 use Rattle.fragment_cut.proofs.FiledRows.{split_more, row_between, rows_more}
 use Rattle.fragment_cut.proofs.filed.rows_of.Goals as goal
 
@@ -10,8 +10,8 @@ loop-row-preserved c =
     let end = c.end_of-end.result in
     let found = c.end_of-end.ensures in
     let more = split_more filed row start end c.requires.rising c.loop-row.invariant.split found.from found.within found.same found.other in
-    let items = ap (λ l. slice_range l start end) (c.deref.ensures.value ∙ c.in_ok-readings.ensures) ∙ row_between filed row start end c.loop-row.invariant.split more found.from found.same in
+    let items = c.deref.ensures.value ∙ c.in_ok-read_row.ensures ∙ row_between filed row start end c.loop-row.invariant.split more found.from found.same in
     record {
-      made = c.in_ok-push_row.ensures.ok ∙ rows_more filed row (slice_range c.deref.result.now start end) c.loop-row.made c.loop-row.invariant.made items;
+      made = c.in_ok-push_row.ensures.ok ∙ rows_more filed row c.deref.result.now c.loop-row.made c.loop-row.invariant.made items;
       split = more;
     }

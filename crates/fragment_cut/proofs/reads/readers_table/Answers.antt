@@ -1,17 +1,15 @@
-use Rattle.std.proofs.Common.{◌≡◌, ◌∙◌, ap, List, map, subst}
-use Rattle.std.specs.Prelude.{IfOk, flat_map}
+use Rattle.std.proofs.Common.{◌≡◌, List, subst}
+use Rattle.std.specs.Prelude.{IfOk}
 use Rattle.graph_core.specs.declared.fragment.Reading.{Reading}
-use Rattle.fragment_cut.specs.Filing.{filed_by, turned}
-use Rattle.fragment_cut.proofs.Turning.{readers_made, turned_inside}
+use Rattle.fragment_cut.proofs.EdgeRows.{dist_readers, reach_readers}
 use Rattle.fragment_cut.proofs.reads.readers_table.Goals as goal
 
-pub table_of-requires : goal.table_of-requires
-table_of-requires c =
+pub returns-in-Dist : goal.returns-in-Dist
+returns-in-Dist c =
     let job = c.args.job.now in
-    turned_inside job.graph job.query c.requires c.deref_mut.result.now c.count.result (c.deref_mut.ensures.value ∙ c.in_ok-filed.ensures ∙ ap (λ es. map turned (flat_map (filed_by job.query) es)) c.edges.ensures.edges) c.count.ensures.count
+    subst (λ (t : List (List Reading)). IfOk c.targets_table.result (λ made. made ≡ t)) (dist_readers job.graph c.requires job.query c.in-Dist.field-0 c.in-Dist.is) c.targets_table.ensures
 
-pub returns : goal.returns
-returns c =
+pub returns-in-Reach : goal.returns-in-Reach
+returns-in-Reach c =
     let job = c.args.job.now in
-    subst (λ (t : List (List Reading)). IfOk c.table_of.result (λ made. made ≡ t))
-    (readers_made job.graph job.query c.requires c.deref_mut.result.now c.count.result (c.deref_mut.ensures.value ∙ c.in_ok-filed.ensures ∙ ap (λ es. map turned (flat_map (filed_by job.query) es)) c.edges.ensures.edges) c.count.ensures.count) c.table_of.ensures
+    subst (λ (t : List (List Reading)). IfOk c.targets_table-in-Reach.result (λ made. made ≡ t)) (reach_readers job.graph c.requires job.query c.in-Reach.field-0 c.in-Reach.is) c.targets_table-in-Reach.ensures
