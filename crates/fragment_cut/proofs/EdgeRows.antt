@@ -1,18 +1,23 @@
 -- The edges of a graph stand in the order of their rows.
-use Rattle.std.proofs.Common.{◌≡◌, ◌≢◌, ℕ, zero, suc, ◌+◌, ◌-◌, ◌<◌, ◌≤◌, true, false, List, [], ◌∷◌, length, map, flat_map, take, drop, get_or, slice_range, refl, ◌∙◌, sym, ap, subst, arith}
-use Rattle.std.specs.Prelude.{All}
+use Rattle.std.proofs.Common.{◌≡◌, ◌≢◌, ℕ, zero, suc, ◌+◌, ◌-◌, ◌<◌, ◌≤◌, true, false, List, [], ◌∷◌, length, map, flat_map, take, drop, get_or, slice_range, refl, ◌∙◌, sym, ap, subst, arith, Bool, cond, ◌==◌, eqb-true}
+use Rattle.std.specs.Prelude.{All, sum_by}
 use Rattle.std.specs.List.Sorted.{IsNonDecreasingBy}
 use Rattle.std.proofs.lemmas.Bool.Decides.{nat_tests}
 use Rattle.std.proofs.lemmas.List.{take-map, drop-map, get_or-map, length-map}
 use Rattle.std.proofs.lemmas.List.Sorted.{IsPermutation-refl}
 use Rattle.graph_core.specs.declared.edge.Edge.{Edge}
 use Rattle.graph_core.specs.declared.query.Query.{Query}
-use Rattle.graph_core.specs.declared.query.Query.TheVariants.{Dist, Reach, Sim}
+use Rattle.graph_core.specs.declared.query.Query.TheVariants.{Dist, Label, Reach, Sim}
 use Rattle.graph_core.specs.Digraph.{Digraph, count_of, edge_le, IsGraph}
 use Rattle.graph_core.proofs.GraphLemmas.{Rises, RisesFrom, rises-sorted}
-use Rattle.fragment_cut.specs.Filing.{Filed, reading_of, filed_under, rows_under, table, filed_by, by_source, turned, reads_table, readers_table}
+use Rattle.fragment_cut.specs.Filing.{Filed, reading_of, filed_under, rows_under, table, filed_by, by_source, by_target, turned, reads_table, readers_table}
 use Rattle.fragment_cut.proofs.FiledRows.{SplitAt, split_more, row_between}
-use Rattle.fragment_cut.proofs.SortedFiled.{is_less, AreSorted, rows_rise, table_is}
+use Rattle.fragment_cut.proofs.SortedFiled.{is_less, AreSorted, rows_rise, table_is, map_same, same_under}
+use Rattle.fragment_cut.proofs.InOrder.{sorted_same}
+use Rattle.graph_core.proofs.Sums.{sum-map, sum-flat_map, sum-same, sum_one}
+use Rattle.graph_core.specs.Fragments.{sorted_readings}
+use Rattle.std.specs.List.{range_with_len}
+use Rattle.std.proofs.lemmas.List.Sums.{sum_by-cons}
 use Rattle.fragment_cut.proofs.EdgeFiles.{reads_table_is}
 use Rattle.fragment_cut.proofs.Turning.{readers_table_is}
 
@@ -65,6 +70,29 @@ module _ (g : Digraph) (is : IsGraph g) where
 
   pub reach_readers : (q : Query) (s : ℕ) → q ≡ Reach s → table (map by_source g.edges) (count_of g) ≡ readers_table g q
   reach_readers q s e = ap (λ l. table l (count_of g)) (sym (reach_files s g.edges)) ∙ readers_table_is g (Reach s) is ∙ ap (readers_table g) (sym e)
+
+-- under label an edge is read the same way turned round
+label_edge : (f : Filed → ℕ) (e : Edge) (b : Bool) → (e.from == e.to) ≡ b → sum_by (λ x. f (turned x)) (cond b (by_source e ∷ []) (by_source e ∷ by_target e ∷ [])) ≡ sum_by f (cond b (by_source e ∷ []) (by_source e ∷ by_target e ∷ []))
+label_edge f e true h =
+    let same = eqb-true e.from e.to h in
+    sym (sum_one (λ x. f (turned x)) (by_source e)) ∙ ap (λ n. f (record { row = n; place = e.from; weight = e.weight })) (sym same) ∙ ap (λ n. f (record { row = e.from; place = n; weight = e.weight })) same ∙ sum_one f (by_source e)
+label_edge f e false h =
+    omega (arith, sum_by-cons (λ x. f (turned x)) (by_source e) (by_target e ∷ []), sum_by-cons f (by_source e) (by_target e ∷ []), sum_one (λ x. f (turned x)) (by_target e), sum_one f (by_target e))
+
+label_sums : (edges : List Edge) (f : Filed → ℕ) → sum_by f (map turned (flat_map (filed_by Label) edges)) ≡ sum_by f (flat_map (filed_by Label) edges)
+label_sums edges f =
+    sum-map f turned (flat_map (filed_by Label) edges)
+    ∙ sum-flat_map (λ x. f (turned x)) (filed_by Label) edges
+    ∙ sum-same _ (λ e. sum_by f (filed_by Label e)) edges (λ e c. label_edge f e (e.from == e.to) refl)
+    ∙ sym (sum-flat_map f (filed_by Label) edges)
+
+pub label_readers : (g : Digraph) (is : IsGraph g) (q : Query) → q ≡ Label → reads_table g q ≡ readers_table g q
+label_readers g is q e =
+    let filed = flat_map (filed_by Label) g.edges in
+    ap (reads_table g) e ∙ sym (reads_table_is g Label)
+    ∙ map_same (λ row. sorted_readings (filed_under filed row)) (λ row. sorted_readings (filed_under (map turned filed) row))
+    (λ row. sorted_same (filed_under filed row) (filed_under (map turned filed) row) (same_under row filed (map turned filed) (λ f. sym (label_sums g.edges f)))) (range_with_len 0 (count_of g))
+    ∙ readers_table_is g Label is ∙ ap (readers_table g) (sym e)
 
 map_twice : (edges : List Edge) → map (λ e. reading_of (by_source e)) edges ≡ map reading_of (map by_source edges)
 map_twice [] = refl

@@ -35,8 +35,8 @@ fn only_half(alloc: Global, job: &Job) -> Result<Vec<Half>, NoMemory>
     requires fragments { job.now.settings.fragments ≡ 1 }
     ensures { IfOk result (λ halves. halves.items ≡ map (half_of job.now) (numbers_below job.now.settings.fragments)) }
 {
-    let readers = readers_table(alloc, job)?;
     let reads = reads_table(alloc, job)?;
+    let readers = readers_table(alloc, job, &reads)?;
     let half = Half::only(alloc, job, reads, readers)?;
     let mut halves = Vec::new(alloc);
     halves.push(half)?;
@@ -96,8 +96,8 @@ fn joined(
 /// The fragments of a job, as many as its settings say, by number. Each vertex is owned by one of them,
 /// at one place, and its readings there are what its equation reads.
 ///
-/// It takes the time of three sorts of what is read along the edges, and two passes over the vertices a
-/// fragment. Tables are dense, so that no vertex or edge has memory of its own. Where memory runs out,
+/// One fragment takes the time of a sort of what is read along the edges. Several take that of three, and of two
+/// passes over the vertices a fragment. Tables are dense, so that no vertex or edge has memory of its own. Where memory runs out,
 /// nothing is left.
 pub fn fragment(alloc: Global, job: &Job) -> Result<Vec<Fragment>, NoMemory>
     requires { IsJob job.now }

@@ -86,14 +86,32 @@ pub fn reads_table(alloc: Global, job: &Job) -> Result<Rows<Reading>, NoMemory>
     }
 }
 
-/// By whom each vertex is read, with vertex indexes for places, in order of reader and weight.
-pub fn readers_table(alloc: Global, job: &Job) -> Result<Rows<Reading>, NoMemory>
-    requires { IsGraph job.now.graph }
+/// An equal table, with room for so many readings.
+fn copy_of(alloc: Global, table: &Rows<Reading>, readings: usize) -> Result<Rows<Reading>, NoMemory>
+    ensures { IfOk result (λ copy. copy ≡ table.now) }
+{
+    let mut copy = Rows::with_capacity(alloc, table.len(), readings)?;
+    for row in 0..table.len() {
+        copy.push_row(table.row(row))?;
+    }
+    Ok(copy)
+}
+
+/// By whom each vertex is read, with vertex indexes for places, in order of reader and weight. `reads` is what each reads:
+/// under `label` that is the same table.
+pub fn readers_table(
+    alloc: Global,
+    job: &Job,
+    reads: &Rows<Reading>,
+) -> Result<Rows<Reading>, NoMemory>
+    requires graph { IsGraph job.now.graph }
+    requires reads { reads.now ≡ reads_table job.now.graph job.now.query }
     ensures { IfOk result (λ readers. readers ≡ readers_table job.now.graph job.now.query) }
 {
     match &job.query {
         Query::Dist(_) => targets_table(alloc, &job.graph),
         Query::Reach(_) => targets_table(alloc, &job.graph),
-        _ => sorted_readers(alloc, job),
+        Query::Label => copy_of(alloc, reads, job.graph.edges().len()),
+        Query::Sim(_) => sorted_readers(alloc, job),
     }
 }
