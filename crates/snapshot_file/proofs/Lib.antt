@@ -1,3 +1,4 @@
+pub mod Cutting
 pub mod Exits
 pub mod Filling
 pub mod FormOf

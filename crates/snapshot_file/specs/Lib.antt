@@ -1,4 +1,5 @@
 pub mod Bodies
+pub mod Cuts
 pub mod Examples
 pub mod Fields
 pub mod Lengths

@@ -10,6 +10,7 @@
 mod damaged;
 mod fields;
 mod lengths;
+mod pieces;
 mod reading;
 mod rule;
 #[cfg(test)]
@@ -19,5 +20,6 @@ mod writing;
 pub use damaged::Damaged;
 pub use fields::{epoch_of, phase_place};
 pub use lengths::{body_len, file_len, slot_len};
+pub use pieces::encode_piece;
 pub use reading::decode;
 pub use writing::encode;

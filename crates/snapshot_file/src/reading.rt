@@ -49,7 +49,7 @@ pub fn decode(
     read_parts(rest, base + 8, shape.order, &shape.parts, &mut into.parts)
 }
 
-fn is_epoch(slot: u64, number: u64) -> bool
+pub(crate) fn is_epoch(slot: u64, number: u64) -> bool
     ensures { result ≡ is_epoch slot number }
 {
     1 <= number && number < 1 << 62 && number % 2 == slot
@@ -123,7 +123,7 @@ fn read_part(
     )
 }
 
-fn phase_from(byte: u8) -> Option<Phase>
+pub(crate) fn phase_from(byte: u8) -> Option<Phase>
     ensures { MatchOption result (1 < byte) (λ phase. phase_byte phase ≡ byte) }
 {
     match byte {

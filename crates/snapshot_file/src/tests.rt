@@ -1,7 +1,9 @@
 ghost use Rattle.std.specs.Prelude.{◌≡◌, IfOk};
 ghost use Rattle.snapshot_file.specs.Examples.{six_vertices, sealed, marked};
 
-use crate::{Damaged, body_len, decode, encode, epoch_of, file_len, phase_place, slot_len};
+use crate::{
+    Damaged, body_len, decode, encode, encode_piece, epoch_of, file_len, phase_place, slot_len,
+};
 use grape_port::NoMemory;
 use std::alloc::Global;
 use std::test::Fail;
@@ -68,6 +70,26 @@ fn sealed_body(alloc: Global) -> Result<Vec<u8>, NoMemory> {
     Ok(body)
 }
 
+// So many bytes of that body from that place on; none where they don't lie in it.
+fn sealed_piece(alloc: Global, from: u64, len: u32) -> Result<Vec<u8>, NoMemory> {
+    let shape = six_vertices(alloc)?;
+    let snapshot = sealed(alloc)?;
+    let mut piece = vec![in alloc; 7; len as usize]?;
+    if from > 123 || from + len as u64 > body_len(&shape) {
+        return Ok(Vec::new(alloc));
+    }
+    encode_piece(&snapshot, &shape, from, &mut piece);
+    Ok(piece)
+}
+
+fn stands_at(body: &[u8], from: usize, piece: &[u8]) -> bool {
+    if body.len() < from {
+        return false;
+    }
+    let (_, behind) = body.split_at(from);
+    behind.starts_with(piece)
+}
+
 // What the marked snapshot becomes where a body is read into it, and the answer; none for a body of
 // another length.
 fn read_marked(
@@ -131,6 +153,21 @@ fn a_body_reads_back(rt: HostRuntime) -> Result<(), Fail> {
             (Phase::Rest, &[1, 1, 1], &[NOTHING]),
         ];
         assert!(rt; has_parts(&snapshot, want));
+    }
+    Ok(())
+}
+
+#[test]
+fn a_piece_from_each_place(rt: HostRuntime) -> Result<(), Fail> {
+    let alloc = rt.alloc();
+    let body = sealed_body(alloc)?;
+    for from in 0..123u32 {
+        for len in [1, 7, 20, 123 - from] {
+            let len = len.min(123 - from);
+            let piece = sealed_piece(alloc, from as u64, len)?;
+            assert_eq!(rt; piece.len(), len as usize);
+            assert!(rt; stands_at(&body, from as usize, &piece));
+        }
     }
     Ok(())
 }

@@ -2,7 +2,7 @@ ghost use Rattle.std.specs.Prelude.{◌≡◌, ◌≤◌, ◌+◌, ◌++◌, ℕ
 ghost use Rattle.byteorder.specs.Endian.{big_bytes};
 ghost use Rattle.token_cut.specs.Form.{IsInSlotForm};
 ghost use Rattle.token_cut.specs.Shapes.{Starts};
-ghost use Rattle.snapshot_file.specs.Bodies.{body_bytes, part_bytes, number_bytes};
+ghost use Rattle.snapshot_file.specs.Bodies.{body_bytes, part_bytes, number_bytes, phase_byte};
 ghost use Rattle.snapshot_file.specs.Reading.{decoded};
 
 use byteorder::{BigEndian, ByteOrder};
@@ -30,13 +30,18 @@ fn write_part(part: &Part, to: &mut Vec<u8>)
     ensures length { vec_len to.new ≡ vec_len to.old + length (part_bytes part.now) }
     ensures capacity { vec_capacity to.new ≡ vec_capacity to.old }
 {
-    let phase = match part.phase {
-        Phase::Fresh => 0,
-        Phase::Rest => 1,
-    };
-    to.push_reserved(phase);
+    to.push_reserved(phase_byte(part.phase));
     write_numbers(&part.values, to);
     write_numbers(&part.mail, to);
+}
+
+pub(crate) fn phase_byte(phase: Phase) -> u8
+    ensures { result ≡ phase_byte phase }
+{
+    match phase {
+        Phase::Fresh => 0,
+        Phase::Rest => 1,
+    }
 }
 
 fn write_numbers(numbers: &[u64], to: &mut Vec<u8>)
