@@ -1,5 +1,7 @@
+pub mod ByField
 pub mod Cutting
 pub mod Exits
+pub mod Fed
 pub mod Filling
 pub mod FormOf
 pub mod Parts

@@ -1,8 +1,11 @@
 pub mod Bodies
 pub mod Cuts
 pub mod Examples
+pub mod Feeding
 pub mod Fields
 pub mod Lengths
+pub mod Pieces
+pub mod ReaderState
 pub mod Reading
 pub mod Rules
 pub mod Tests

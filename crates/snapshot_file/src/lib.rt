@@ -7,16 +7,20 @@
 //! room that is there, and read over a snapshot of its shape.
 #![tactic(auto)]
 
+mod body_reader;
 mod damaged;
+mod field;
 mod fields;
 mod lengths;
 mod pieces;
+mod putting;
 mod reading;
 mod rule;
 #[cfg(test)]
 mod tests;
 mod writing;
 
+pub use body_reader::BodyReader;
 pub use damaged::Damaged;
 pub use fields::{epoch_of, phase_place};
 pub use lengths::{body_len, file_len, slot_len};
