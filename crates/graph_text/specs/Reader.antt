@@ -1,9 +1,12 @@
 -- What a reader of lines has read.
 use Rattle.std.specs.Prelude.{◌≡◌, ℕ, List, [], length, flat_map, Option, Some, None, Result, Ok, Err, ⊤}
+use Rattle.graph_core.specs.declared.edge.Edge.{Edge}
 use Rattle.graph_core.specs.declared.job.Job.{Job}
 use Rattle.graph_text.specs.declared.fault.TextFault.{TextFault}
 use Rattle.graph_text.specs.declared.fault.TextFault.TheVariants as fault
-use Rattle.text_lines.specs.Lines.{whole_lines, last_line}
+use Rattle.line_statements.specs.declared.statement.Statement.TheVariants.{Joins}
+use Rattle.line_statements.specs.Statements.{statement_of}
+use Rattle.text_lines.specs.Lines.{whole_lines, last_line, words_of}
 use Rattle.graph_text.specs.Gathering.{Holds}
 use Rattle.graph_text.specs.Input.{BadLine, bad, statements_of, first_bad, cause_of, shown_of}
 use Rattle.graph_text.specs.ReaderState.{LinesState, TextState, ReaderState}
@@ -34,6 +37,11 @@ pub record HasRead (r : ReaderState) (text : List ℕ) : Type 0 where
 -- The reader has answered this fault.
 abbrev pub HasFailed : ReaderState → TextFault → Type 0
 HasFailed r f = r.fault ≡ Some f
+
+-- a line that is known to say an edge says it
+abbrev pub DoesSay : List ℕ → Option Edge → Type 0
+DoesSay line None = ⊤
+DoesSay line (Some edge) = statement_of (words_of line) ≡ Ok (Joins edge)
 
 -- a fault is of this bad line, or memory ran out
 abbrev pub IsFaultOf : TextFault → BadLine → Type 0

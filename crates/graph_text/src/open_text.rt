@@ -2,11 +2,11 @@ ghost use Rattle.std.specs.Prelude.{◌≡◌, ℕ, ◌+◌, ◌<◌, ◌≤◌,
 ghost use Rattle.text_lines.specs.Lines.{HasNoLineFeed, IsOneLine};
 
 use crate::fault::TextFault;
+use crate::next_line::next_line;
 use crate::whole_lines::WholeLines;
 use grape_port::NoMemory;
-use graph_core::Job;
+use graph_core::{Edge, Job};
 use std::alloc::Global;
-use text_lines::split_line;
 
 /// The most bytes of a line, with its line feed.
 const LINE_ROOM: usize = 4_097;
@@ -23,7 +23,7 @@ impl OpenText {
     ghost use Rattle.graph_core.specs.Graphs.{IsJob};
     ghost use Rattle.graph_text.specs.Input.{input_of, shown_of};
     ghost use Rattle.graph_text.specs.ReaderState.{text_state};
-    ghost use Rattle.graph_text.specs.Reader.{HasText, Answers, Gives};
+    ghost use Rattle.graph_text.specs.Reader.{HasText, Answers, Gives, DoesSay};
 
     /// No text, and room for a line.
     pub(crate) fn new(alloc: Global) -> Result<OpenText, NoMemory>
@@ -44,21 +44,23 @@ impl OpenText {
         ensures ok { OnOk result ((text : List ℕ) → HasText (text_state self.old) text → HasText (text_state self.new) (text ++ piece.now)) }
     {
         let mut rest = piece;
-        'lines: while let Some((end, others)) = split_line(rest) {
-            self.end_line(end)?;
+        'lines: while let Some((end, others, edge)) = next_line(rest) {
+            self.end_line(end, edge)?;
             rest = others;
         }
         self.hold(rest)
     }
 
-    /// Reads bytes that end the line, and judges it. A line that lies whole in the piece isn't copied.
-    fn end_line(&mut self, end: &[u8]) -> Result<(), TextFault>
-        requires { IsOneLine end.now }
+    /// Reads bytes that end the line, and judges it. A line that lies whole in the piece isn't copied. The edge is what the
+    /// bytes are known to say as a line of their own.
+    fn end_line(&mut self, end: &[u8], edge: Option<Edge>) -> Result<(), TextFault>
+        requires one { IsOneLine end.now }
+        requires says { DoesSay end.now edge }
         ensures answer { (text : List ℕ) → HasText (text_state self.old) text → Answers result (shown_of (text ++ end.now)) }
         ensures ok { OnOk result ((text : List ℕ) → HasText (text_state self.old) text → HasText (text_state self.new) (text ++ end.now)) }
     {
         if self.line.is_empty() {
-            return self.whole.take(end);
+            return self.whole.take_known(end, edge);
         }
         if end.len() > LINE_ROOM - self.line.len() {
             return Err(self.whole.too_long());

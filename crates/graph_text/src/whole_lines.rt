@@ -1,9 +1,10 @@
 ghost use Rattle.std.specs.Prelude.{◌≡◌, ℕ, ◌+◌, ◌<◌, ◌≤◌, ◌||◌, nat_lt, List, [], ◌∷◌, ◌++◌, length, Ok, option_map, OnOk, IfOk};
-ghost use Rattle.text_lines.specs.Lines.{lines_of, before_line_feed, HasNoLineFeed};
+ghost use Rattle.text_lines.specs.Lines.{lines_of, before_line_feed, words_of, HasNoLineFeed, IsOneLine};
+ghost use Rattle.line_statements.specs.Statements.{statement_of};
 
 use crate::fault::TextFault;
 use crate::gathered::Gathered;
-use graph_core::Job;
+use graph_core::{Edge, Job};
 use line_statements::{Statement, Why, read_statement};
 use std::alloc::Global;
 use text_lines::length_before_line_feed;
@@ -30,7 +31,7 @@ impl WholeLines {
     ghost use Rattle.graph_text.specs.Input.{bad, cause_among, first_bad, cause_of, job_of_lines};
     ghost use Rattle.graph_text.specs.ReaderState.{gathered_state, lines_state};
     ghost use Rattle.graph_text.specs.Gathering.{Holds};
-    ghost use Rattle.graph_text.specs.Reader.{HasLines, Answers, Gives};
+    ghost use Rattle.graph_text.specs.Reader.{HasLines, Answers, Gives, DoesSay};
 
     /// No lines.
     pub(crate) fn new(alloc: Global) -> WholeLines
@@ -76,6 +77,32 @@ impl WholeLines {
                 Err(TextFault::Bad { line, why })
             }
         }
+    }
+
+    /// Takes the next line, which ends with its line feed, and says this edge where there is one.
+    pub(crate) fn take_known(&mut self, line: &[u8], edge: Option<Edge>) -> Result<(), TextFault>
+        requires one { IsOneLine line.now }
+        requires says { DoesSay line.now edge }
+        ensures answer { (lines : List (List ℕ)) → HasLines (lines_state self.old) lines → Answers result (option_map (bad (length lines + 1)) (cause_of lines line.now)) }
+        ensures ok { OnOk result ((lines : List (List ℕ)) → HasLines (lines_state self.old) lines → HasLines (lines_state self.new) (lines ++ line.now ∷ [])) }
+    {
+        match edge {
+            Some(edge) => self.take_edge(line, edge),
+            None => self.take(line),
+        }
+    }
+
+    /// Takes the next line, which says this edge.
+    fn take_edge(&mut self, line: &[u8], edge: Edge) -> Result<(), TextFault>
+        requires one { IsOneLine line.now }
+        requires says { statement_of (words_of line.now) ≡ Ok (Statement.Joins edge) }
+        ensures answer { (lines : List (List ℕ)) → HasLines (lines_state self.old) lines → Answers result (option_map (bad (length lines + 1)) (cause_of lines line.now)) }
+        ensures ok { OnOk result ((lines : List (List ℕ)) → HasLines (lines_state self.old) lines → HasLines (lines_state self.new) (lines ++ line.now ∷ [])) }
+    {
+        if self.is_too_long(length_before_line_feed(line), line.len()) {
+            return Err(self.too_long());
+        }
+        self.add(line.len(), Statement::Joins(edge))
     }
 
     /// Adds a line of this length that says this.
