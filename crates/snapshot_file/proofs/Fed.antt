@@ -1,5 +1,5 @@
 -- What a reader of a body knows once a byte more is fed.
-use Rattle.std.proofs.Common.{◌≡◌, ◌⊎◌, inl, inr, ℕ, zero, suc, ◌+◌, ◌-◌, ◌*◌, ◌≤◌, ◌<◌, nat_lt, Bool, true, false, if◌then◌else◌, List, [], ◌∷◌, ◌++◌, take, drop, length, get_or, replicate, sum, Option, Result, Ok, Err, None, refl, sym, ap, ◌∙◌, subst, arith, append_assoc, length-append}
+use Rattle.std.proofs.Common.{◌≡◌, ◌⊎◌, inl, inr, ℕ, zero, suc, ◌+◌, ◌-◌, ◌≤◌, ◌<◌, nat_lt, Bool, true, false, if◌then◌else◌, List, [], ◌∷◌, ◌++◌, take, drop, length, get_or, replicate, sum, Option, Result, Ok, Err, None, refl, sym, ap, ◌∙◌, subst, arith, append_assoc, length-append}
 use Rattle.std.specs.List.{flat_map}
 use Rattle.std.proofs.lemmas.Bool.Decides.{leb_tells}
 use Rattle.std.proofs.lemmas.List.{drop_more, drop_all, take_all, append-nil, take-append-drop}
@@ -10,7 +10,7 @@ use Rattle.snapshot_file.specs.Bodies.{Form}
 use Rattle.snapshot_file.specs.Tests.{is_epoch}
 use Rattle.snapshot_file.specs.Feeding.{Shows, HasRead}
 use Rattle.snapshot_file.specs.Fields.{part_numbers, part_widths, field_widths}
-use Rattle.snapshot_file.specs.Lengths.{part_length, parts_length, body_length}
+use Rattle.snapshot_file.specs.Lengths.{parts_length, body_length}
 use Rattle.snapshot_file.specs.Reading.{number, parts_decoded, decoded, read_as}
 use Rattle.snapshot_file.specs.Pieces.{starts_at, no_starts, left_decoded, width_of, widths_from, IsField, MayCome, field_behind, next_field, is_right, put_field}
 use Rattle.snapshot_file.specs.ReaderState.{ReaderState}

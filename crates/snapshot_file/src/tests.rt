@@ -2,7 +2,8 @@ ghost use Rattle.std.specs.Prelude.{◌≡◌, IfOk};
 ghost use Rattle.snapshot_file.specs.Examples.{six_vertices, sealed, marked};
 
 use crate::{
-    Damaged, body_len, decode, encode, encode_piece, epoch_of, file_len, phase_place, slot_len,
+    BodyReader, Damaged, body_len, decode, encode, encode_piece, epoch_of, file_len, phase_place,
+    slot_len,
 };
 use grape_port::NoMemory;
 use std::alloc::Global;
@@ -106,6 +107,28 @@ fn read_marked(
     Ok(Some((answer, snapshot)))
 }
 
+// The same of a body that is fed in pieces of that length: the last answer, and how much was read.
+fn feed_marked(
+    alloc: Global,
+    body: &[u8],
+    len: usize,
+) -> Result<(Result<(), Damaged>, Snapshot, u64), NoMemory> {
+    let shape = six_vertices(alloc)?;
+    let mut snapshot = marked(alloc)?;
+    let mut reader = BodyReader::new(1000, 1);
+    for piece in body.chunks(len.max(1)) {
+        if body_len(&shape).saturating_sub(reader.fed()) < piece.len() as u64 {
+            break;
+        }
+        if let Err(damaged) = reader.feed(piece, &shape, &mut snapshot) {
+            let again = reader.feed(&[], &shape, &mut snapshot);
+            let answer = if again == Err(damaged) { again } else { Ok(()) };
+            return Ok((answer, snapshot, reader.fed()));
+        }
+    }
+    Ok((Ok(()), snapshot, reader.fed()))
+}
+
 fn has_part(part: &Part, phase: Phase, values: &[u64], mail: &[u64]) -> bool {
     part.phase == phase && part.values.as_slice() == values && part.mail.as_slice() == mail
 }
@@ -168,6 +191,47 @@ fn a_piece_from_each_place(rt: HostRuntime) -> Result<(), Fail> {
             assert_eq!(rt; piece.len(), len as usize);
             assert!(rt; stands_at(&body, from as usize, &piece));
         }
+    }
+    Ok(())
+}
+
+#[test]
+fn a_body_is_fed_in_pieces(rt: HostRuntime) -> Result<(), Fail> {
+    let alloc = rt.alloc();
+    let body = sealed_body(alloc)?;
+    for len in [1, 7, 123] {
+        let (answer, snapshot, fed) = feed_marked(alloc, &body, len)?;
+        assert_eq!(rt; answer, Ok(()));
+        assert_eq!(rt; fed, 123);
+        assert_eq!(rt; snapshot.epoch, 1);
+        let want: [(Phase, &[u64], &[u64]); 3] = [
+            (Phase::Fresh, &[1, 2, 3, 6], &[2, 1]),
+            (Phase::Rest, &[2, 4, 2], &[NOTHING]),
+            (Phase::Rest, &[1, 1, 1], &[NOTHING]),
+        ];
+        assert!(rt; has_parts(&snapshot, want));
+    }
+    Ok(())
+}
+
+#[test]
+fn a_wrong_field_is_shown_with_its_last_byte(rt: HostRuntime) -> Result<(), Fail> {
+    let alloc = rt.alloc();
+    for (at, byte, place) in damages() {
+        let mut body = sealed_body(alloc)?;
+        if at < body.len() {
+            body[at] = byte;
+        }
+        let (answer, _snapshot, fed) = feed_marked(alloc, &body, 1)?;
+        assert_eq!(rt; answer, Err(Damaged { place }));
+        assert_eq!(rt;
+            fed,
+            if place == 1008 {
+                9
+            } else {
+                place.saturating_sub(992)
+            }
+        );
     }
     Ok(())
 }

@@ -1,4 +1,4 @@
-use Rattle.std.proofs.Common.{◌≡◌, ℕ, List, ◌++◌, Ok, subst}
+use Rattle.std.proofs.Common.{◌≡◌, ℕ, ◌++◌, Ok, subst}
 use Rattle.snapshot_file.specs.Bodies.{Form}
 use Rattle.snapshot_file.specs.Feeding.{HasRead}
 use Rattle.snapshot_file.specs.Reading.{decoded}
