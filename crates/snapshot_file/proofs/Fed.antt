@@ -33,7 +33,7 @@ widths_behind shape k n = cases (nat_lt n (part_numbers (starts_at k shape.parts
         let none : part_numbers (starts_at k shape.parts) - n ≡ 0 = omega (arith, r.1) in
         ap (λ (m : ℕ). replicate m 8 ++ flat_map part_widths (drop (k + 1) shape.parts)) none
 
-widths_next : (shape : Starts) (field : Field) → IsField shape.parts field → widths_from shape field ≡ width_of field ∷ widths_from shape (next_field shape.parts field)
+pub widths_next : (shape : Starts) (field : Field) → IsField shape.parts field → widths_from shape field ≡ width_of field ∷ widths_from shape (next_field shape.parts field)
 widths_next shape Epoch is = refl
 widths_next shape (PhaseOf k) is =
     let all : part_numbers (starts_at k shape.parts) ≡ part_numbers (starts_at k shape.parts) - 0 = omega arith in
@@ -72,12 +72,12 @@ sum_parts (starts ∷ parts) = omega (arith, sum_by-append (λ (n : ℕ). n) (pa
 sum_fields : (shape : Starts) → sum (field_widths shape) ≡ body_length shape
 sum_fields shape = omega (arith, sum_by-append (λ (n : ℕ). n) (8 ∷ []) (flat_map part_widths shape.parts), sum_parts shape.parts)
 
-record Split (ws : List ℕ) (c w : ℕ) (more : List ℕ) : Type 0 where
+pub record Split (ws : List ℕ) (c w : ℕ) (more : List ℕ) : Type 0 where
   pub low : c < length ws
   pub sums : sum (take (c + 1) ws) ≡ sum (take c ws) + w
   pub rest : drop (c + 1) ws ≡ more
 
-split_of : (ws : List ℕ) (c w : ℕ) (more : List ℕ) → drop c ws ≡ w ∷ more → Split ws c w more
+pub split_of : (ws : List ℕ) (c w : ℕ) (more : List ℕ) → drop c ws ≡ w ∷ more → Split ws c w more
 split_of [] zero w more e = absurd (cc)
 split_of [] (suc c) w more e = absurd (cc)
 split_of (v ∷ ws) zero w more e =
@@ -94,7 +94,7 @@ split_of (v ∷ ws) (suc c) w more e =
       rest = ap (λ (k : ℕ). drop k (v ∷ ws)) one ∙ s.rest;
     }
 
-none_behind : (ws : List ℕ) (c : ℕ) → drop c ws ≡ [] → sum (take c ws) ≡ sum ws
+pub none_behind : (ws : List ℕ) (c : ℕ) → drop c ws ≡ [] → sum (take c ws) ≡ sum ws
 none_behind [] zero e = refl
 none_behind [] (suc c) e = refl
 none_behind (v ∷ ws) zero e = absurd (cc)
@@ -212,7 +212,7 @@ piece_joined bytes piece i low =
 
 -- ---- the end of the body
 
-ends_or_is : (shape : Starts) (field : Field) → MayCome shape.parts field → IsField shape.parts field ⊎ ((widths_from shape field ≡ []) × (width_of field ≡ 1))
+pub ends_or_is : (shape : Starts) (field : Field) → MayCome shape.parts field → IsField shape.parts field ⊎ ((widths_from shape field ≡ []) × (width_of field ≡ 1))
 ends_or_is shape Epoch may = inl tt
 ends_or_is shape (PhaseOf k) may = cases (leb_tells (suc k) (length shape.parts))
   where

@@ -4,6 +4,7 @@ pub mod Exits
 pub mod Fed
 pub mod Filling
 pub mod FormOf
+pub mod NoneShown
 pub mod Parts
 pub mod Passing
 pub mod ReadBack

@@ -69,13 +69,15 @@ impl BodyReader {
     /// gives.
     ///
     /// `Damaged` comes exactly where the bytes so far show the first wrong field, with its place: once
-    /// its last byte is there. Each later call answers the same, and reads nothing.
+    /// its last byte is there. Each later call answers the same, and reads nothing. After an `Ok` the
+    /// bytes so far show no wrong field.
     pub fn feed(&mut self, piece: &[u8], shape: &Shape, into: &mut Snapshot) -> Result<(), Damaged>
         requires shape { IsShape shape.now }
         requires into { HaveShape shape.now.parts into.old.parts }
         requires length { self.old.fed + length piece.now ≤ body_length shape.now }
         ensures more { (bytes : List ℕ) → HasRead shape.now self.old bytes into.old → OnOk result (HasRead shape.now self.new (bytes ++ piece.now) into.new) }
         ensures damaged { (bytes : List ℕ) → HasRead shape.now self.old bytes into.old → IfErr result (λ e. Shows shape.now self.old.slot self.old.base (bytes ++ piece.now) e.place) }
+        ensures sound { (bytes : List ℕ) → HasRead shape.now self.old bytes into.old → OnOk result ((place : ℕ) → Shows shape.now self.old.slot self.old.base (bytes ++ piece.now) place → ⊥) }
 
         // The last piece: the whole body reads as the snapshot.
         ensures whole { (bytes : List ℕ) → HasRead shape.now self.old bytes into.old → length (bytes ++ piece.now) ≡ body_length shape.now

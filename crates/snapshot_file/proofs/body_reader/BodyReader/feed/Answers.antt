@@ -1,10 +1,19 @@
-use Rattle.std.proofs.Common.{◌≡◌, ℕ, ◌++◌, Ok, subst}
+use Rattle.std.proofs.Common.{◌≡◌, ℕ, ◌++◌, Ok, sym, subst}
 use Rattle.snapshot_file.specs.Bodies.{Form}
-use Rattle.snapshot_file.specs.Feeding.{HasRead}
+use Rattle.snapshot_file.specs.Feeding.{Shows, HasRead}
 use Rattle.snapshot_file.specs.Reading.{decoded}
 use Rattle.snapshot_file.proofs.Exits.{on_ok}
 use Rattle.snapshot_file.proofs.Fed.{body_read, body_formed}
+use Rattle.snapshot_file.proofs.NoneShown.{none_shown}
 use Rattle.snapshot_file.proofs.body_reader.BodyReader.feed.Goals as goal
+
+pub returns-clause-sound : goal.returns-clause-sound
+returns-clause-sound c = λ bytes read.
+    on_ok c.read_bytes.result (HasRead c.args.shape.now c.read_bytes.new.self (bytes ++ c.args.piece.now) c.read_bytes.new.into) ((place : ℕ) → Shows c.args.shape.now c.args.self.now.slot c.args.self.now.base (bytes ++ c.args.piece.now) place → ⊥)
+    (λ has. λ place shows. none_shown c.args.shape.now c.read_bytes.new.self (bytes ++ c.args.piece.now) c.read_bytes.new.into has place
+    (subst (λ (n : ℕ). Shows c.args.shape.now n c.read_bytes.new.self.base (bytes ++ c.args.piece.now) place) (sym c.read_bytes.ensures.slot)
+    (subst (λ (n : ℕ). Shows c.args.shape.now c.args.self.now.slot n (bytes ++ c.args.piece.now) place) (sym c.read_bytes.ensures.base) shows)))
+    (c.read_bytes.ensures.more bytes read)
 
 pub returns-clause-whole : goal.returns-clause-whole
 returns-clause-whole c = λ bytes read all.
