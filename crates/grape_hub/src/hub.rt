@@ -39,7 +39,8 @@ use token_cut::Snapshot;
 /// one lane leaves the notes of all others.
 #[derive(Drop)]
 pub struct Hub<P: Pie, Q: Pacer> {
-    engine: Engine<P, Q>,
+    /// Boxed, since a hub passes in and out of its lock at each visit.
+    engine: Box<Engine<P, Q>>,
     lanes: Vec<LaneRecord>,
     /// A Local of each worker whose Work was given after the journal's end.
     given_up: Vec<Option<Local>>,
@@ -51,9 +52,9 @@ impl<P: Pie, Q: Pacer> Model for Hub<P, Q> {
 
     ghost Value = { LanedHub };
 
-    ghost view = { λ h. record { hub = h.engine; lanes = h.lanes.items } };
+    ghost view = { λ h. record { hub = h.engine.value; lanes = h.lanes.items } };
 
-    ghost invariant = { λ h. IsLanedHub (record { hub = h.engine; lanes = h.lanes.items }) × HoldsGivenUp (record { hub = h.engine; lanes = h.lanes.items }) h.given_up.items };
+    ghost invariant = { λ h. IsLanedHub (record { hub = h.engine.value; lanes = h.lanes.items }) × HoldsGivenUp (record { hub = h.engine.value; lanes = h.lanes.items }) h.given_up.items };
 }
 
 impl<P: Pie, Q: Pacer> Noted for Hub<P, Q> {
@@ -90,10 +91,12 @@ impl<P: Pie, Q: Pacer> Hub<P, Q> {
             out: false,
         };
         let lanes = vec![in alloc; none; job.settings.lanes as usize]?;
+        let given_up = nothing_given(alloc, fragments.len())?;
+        let engine = Engine::open(alloc, program, job, fragments, pacers, start)?;
         Ok(Hub {
-            given_up: nothing_given(alloc, fragments.len())?,
-            engine: Engine::open(alloc, program, job, fragments, pacers, start)?,
+            engine: Box::new(alloc, engine)?,
             lanes,
+            given_up,
         })
     }
 
@@ -220,7 +223,7 @@ impl<P: Pie, Q: Pacer> Hub<P, Q> {
             given_up,
             ..
         } = self;
-        engine.finish(given_up)
+        Box::into_inner(engine).finish(given_up)
     }
 }
 
