@@ -167,6 +167,38 @@ fn labelled_jobs() -> [(&'static [u8], Wanted); 4] {
     ]
 }
 
+/// One edge, written plainly and in other ways, and edges of the largest numbers.
+fn edge_jobs() -> [(&'static [u8], Wanted); 2] {
+    [
+        (
+            b"query dist 7\n7 8\n0000000007 8 1\n00000000007 8\n7  8\n7\t8\n7 8\r\n7 8",
+            Wanted {
+                query: Asked::Dist(7),
+                vertices: &[(7, 0), (8, 0)],
+                edges: &[
+                    (0, 1, 1),
+                    (0, 1, 1),
+                    (0, 1, 1),
+                    (0, 1, 1),
+                    (0, 1, 1),
+                    (0, 1, 1),
+                    (0, 1, 1),
+                ],
+                ..plain()
+            },
+        ),
+        (
+            b"8 4294967295 0\n4294967295 8 4294967295\nquery dist 8\n8 8\n",
+            Wanted {
+                query: Asked::Dist(8),
+                vertices: &[(8, 0), (4294967295, 0)],
+                edges: &[(0, 0, 1), (0, 1, 0), (1, 0, 4294967295)],
+                ..plain()
+            },
+        ),
+    ]
+}
+
 fn check_job(rt: &impl Abort, alloc: Global, job: &Job, want: &Wanted) -> Result<(), Fail> {
     assert_eq!(rt; question_of(&job.query), want.query);
     assert_eq!(rt; job.settings.fragments, want.fragments);
@@ -215,4 +247,9 @@ fn check_jobs(
 fn jobs(rt: HostRuntime) -> Result<(), Fail> {
     check_jobs(&rt, rt.alloc(), &query_jobs())?;
     check_jobs(&rt, rt.alloc(), &labelled_jobs())
+}
+
+#[test]
+fn edges(rt: HostRuntime) -> Result<(), Fail> {
+    check_jobs(&rt, rt.alloc(), &edge_jobs())
 }

@@ -111,10 +111,27 @@ fn bad_patterns() -> [(&'static [u8], u64, Why); 22] {
     ]
 }
 
+/// Edges that are bad behind one that is written plainly.
+fn bad_edges() -> [(&'static [u8], u64, Why); 10] {
+    [
+        (b"1 2\n1 4294967296\n", 2, Why::Range),
+        (b"1 2\n4294967296 1 1\n", 2, Why::Range),
+        (b"1 2 3\n1 2 9999999999\n1 2\n", 2, Why::Range),
+        (b"1 2\n10000000000 1\n", 2, Why::Range),
+        (b"1 2\n1 2 3 4\n1 2\n", 2, Why::Count),
+        (b"1 2\n1\n2 3\n", 2, Why::Count),
+        (b"1 2\n1 \n2 3\n", 2, Why::Count),
+        (b"1 2\n1 2x\n2 3\n", 2, Why::Number),
+        (b"1 2\n1 2 x\n2 3\n", 2, Why::Number),
+        (b"1 2\n1 2\n", 3, Why::NoQuery),
+    ]
+}
+
 #[test]
 fn bad_lines(rt: HostRuntime) {
     check_refused(&rt, rt.alloc(), &bad_table());
     check_refused(&rt, rt.alloc(), &bad_queries());
     check_refused(&rt, rt.alloc(), &bad_vertices());
     check_refused(&rt, rt.alloc(), &bad_patterns());
+    check_refused(&rt, rt.alloc(), &bad_edges());
 }
