@@ -48,14 +48,13 @@ impl Model for Lists {
 
 impl Lists {
     /// The lists of a graph.
-    fn new(alloc: Global, vertices: &[(u32, u32)], edges: &[Edge]) -> Result<Lists, NoMemory>
-        requires { MakeGraph vertices.now edges.now }
-        ensures exact { IfOk result (λ lists. lists ≡ graph_of vertices.now edges.now) }
-        ensures made { IfOk result IsGraph }
+    fn new(vertices: Vec<(u32, u32)>, edges: Vec<Edge>) -> Lists
+        requires { MakeGraph vertices.items edges.items }
+        ensures exact { result ≡ graph_of vertices.items edges.items }
+        ensures made { IsGraph result }
     {
-        let edges = placed_edges(alloc, vertices, edges)?;
-        let vertices = copy_of(alloc, vertices)?;
-        Ok(Lists { vertices, edges })
+        let edges = placed_edges(&vertices, edges);
+        Lists { vertices, edges }
     }
 
     /// The index of the vertex with this number.
@@ -78,7 +77,22 @@ impl Graph {
         ensures exact { IfOk result (λ graph. graph ≡ graph_of vertices.now edges.now) }
         ensures made { IfOk result IsGraph }
     {
-        let lists = Lists::new(alloc, vertices, edges)?;
+        let edges = copy_of(alloc, edges)?;
+        let vertices = copy_of(alloc, vertices)?;
+        Graph::from_lists(alloc, vertices, edges)
+    }
+
+    /// The graph of these vertices and edges, as `build` makes it. Both vectors become the graph's: nothing is copied.
+    pub fn from_lists(
+        alloc: Global,
+        vertices: Vec<(u32, u32)>,
+        edges: Vec<Edge>,
+    ) -> Result<Graph, NoMemory>
+        requires { MakeGraph vertices.items edges.items }
+        ensures exact { IfOk result (λ graph. graph ≡ graph_of vertices.items edges.items) }
+        ensures made { IfOk result IsGraph }
+    {
+        let lists = Lists::new(vertices, edges);
         let lists = Arc::new(alloc, lists).map_err(|_| NoMemory)?;
         Ok(Graph { lists })
     }

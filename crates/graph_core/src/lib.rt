@@ -8,6 +8,7 @@
 mod copies;
 mod edge;
 mod fragment;
+mod generated;
 mod graph;
 mod job;
 mod laws;
@@ -21,6 +22,7 @@ mod worked;
 
 pub use edge::Edge;
 pub use fragment::{Fragment, FragmentParts, Reading, Route};
+pub use generated::make_graph;
 pub use graph::Graph;
 pub use job::Job;
 pub use laws::{
@@ -34,7 +36,7 @@ pub use query::Query;
 pub use row_table::Rows;
 pub use settings::{Cut, Policy, Settings};
 pub use sorting::{Grouped, sort_in_groups};
-pub use worked::{row_values, rows};
+pub use worked::{generated_rows, row_values, rows};
 
 /// The distance of a vertex that no walk leads to, 2^52: every distance along a walk is smaller.
 pub const FAR: u64 = 4_503_599_627_370_496;

@@ -204,3 +204,14 @@ fn keeps_parts(rt: HostRuntime) -> Result<(), Fail> {
     assert_eq!(rt; part.mirrors(), [9].as_slice());
     Ok(())
 }
+
+#[test]
+fn draws_graphs(rt: HostRuntime) -> Result<(), Fail> {
+    // The words from 1234567 on, as they are published with the generator: 6457827717110365317, 3203168211198807973,
+    // 9817491932198370423, 4593380528125082431, 16408922859458223821 and so on.
+    let graph = make_graph(rt.alloc(), 1000, 1_234_567)?;
+    assert_eq!(rt; graph.count(), 1000);
+    assert_eq!(rt; graph.edges().len(), 4000);
+    assert!(rt; graph.edges().contains(&edge(317, 973, 424)));
+    Ok(())
+}
