@@ -1,6 +1,7 @@
 -- What has been gathered of the statements so far.
 use Rattle.std.specs.Prelude.{◌≡◌, ℕ, ◌==◌, false, List, filter_map, Option, Some, None}
 use Rattle.std.specs.List.{list_any}
+use Rattle.graph_core.specs.declared.edge.Edge.{Edge}
 use Rattle.line_statements.specs.declared.statement.Statement.{Statement}
 use Rattle.line_statements.specs.declared.statement.Statement.TheVariants.{Vertex}
 use Rattle.text_lines.specs.NumberSets.{is_among}
@@ -11,6 +12,12 @@ use Rattle.graph_text.specs.Input.{vertex_numbers, are_too_many, first_of, quest
 abbrev pub vertex_in : Statement → Option (ℕ × ℕ)
 vertex_in (Vertex number label) = Some (number, label)
 vertex_in s = None
+
+-- edges, vertex numbers and labels that these statements give
+pub record AreGiven (ss : List Statement) (edges : List Edge) (numbers : List ℕ) (labels : List (ℕ × ℕ)) : Type 0 where
+  pub edges_given : edges ≡ filter_map edge_in ss
+  pub numbers_given : numbers ≡ vertex_numbers ss
+  pub labels_given : labels ≡ filter_map vertex_in ss
 
 -- It holds the query and the settings, the edges, the pattern's nodes and links and the labels in their order, each
 -- vertex number once, and which of them were given a label, of statements that are not too many.

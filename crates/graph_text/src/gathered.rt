@@ -3,7 +3,7 @@ ghost use Rattle.graph_core.specs.Graphs.{IsJob, MakeGraph, graph_of};
 ghost use Rattle.line_statements.specs.declared.statement.Statement.{Statement as Said};
 ghost use Rattle.graph_text.specs.Input.{bad, cause_among, statements_of, first_bad, cause_of, job_of_lines, vertices_of, settings_of, query_of, missing_source, missing_pattern, missing_for, edge_in};
 ghost use Rattle.graph_text.specs.ReaderState.{gathered_state};
-ghost use Rattle.graph_text.specs.Gathering.{Holds};
+ghost use Rattle.graph_text.specs.Gathering.{Holds, AreGiven};
 ghost use Rattle.graph_text.specs.Reader.{Answers, Gives};
 
 use crate::fault::TextFault;
@@ -176,9 +176,16 @@ impl Gathered {
         if let Some(why) = self.missing_for(question) {
             return Err(TextFault::Bad { line, why });
         }
-        let graph = self.graph()?;
         let settings = self.settings();
-        let Gathered { nodes, links, .. } = self;
+        let Gathered {
+            edges,
+            nodes,
+            links,
+            numbers,
+            labels,
+            ..
+        } = self;
+        let graph = graph_from(edges, &numbers, &labels)?;
         let query = query_of(question, Pattern { nodes, links });
         Ok(Job {
             graph,
@@ -232,19 +239,23 @@ impl Gathered {
             snapshot: self.snapshot.unwrap_or(DEFAULT_SNAPSHOT),
         }
     }
+}
 
-    /// The graph of the vertices and edges.
-    fn graph(&self) -> Result<Graph, TextFault>
-        requires { (ss : List Said) × Holds (gathered_state self.now) ss × MakeGraph (vertices_of ss) (filter_map edge_in ss) }
-        ensures ok { IfOk result (λ graph. (ss : List Said) → Holds (gathered_state self.now) ss → graph ≡ graph_of (vertices_of ss) (filter_map edge_in ss)) }
-        ensures err { IfErr result (λ fault. fault ≡ TextFault.NoMemory) }
-    {
-        let alloc = *self.edges.allocator();
-        let numbers = self.numbers.sorted(alloc)?;
-        let vertices = with_labels(alloc, &numbers, &self.labels)?;
-        let graph = Graph::build(alloc, &vertices, &self.edges)?;
-        Ok(graph)
-    }
+/// The graph of these edges, whose vertices have these numbers, and some of them labels. The edges become the graph's.
+fn graph_from(
+    edges: Vec<Edge>,
+    numbers: &NumberSet,
+    labels: &[(u32, u32)],
+) -> Result<Graph, TextFault>
+    requires { (ss : List Said) × AreGiven ss edges.items numbers.now labels.now × MakeGraph (vertices_of ss) (filter_map edge_in ss) }
+    ensures ok { IfOk result (λ graph. (ss : List Said) → AreGiven ss edges.items numbers.now labels.now → graph ≡ graph_of (vertices_of ss) (filter_map edge_in ss)) }
+    ensures err { IfErr result (λ fault. fault ≡ TextFault.NoMemory) }
+{
+    let alloc = *edges.allocator();
+    let sorted = numbers.sorted(alloc)?;
+    let vertices = with_labels(alloc, &sorted, labels)?;
+    let graph = Graph::from_lists(alloc, vertices, edges)?;
+    Ok(graph)
 }
 
 /// Keeps what this line says, where no line said the like. Else the line is bad.
