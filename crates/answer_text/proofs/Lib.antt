@@ -1,3 +1,4 @@
 pub mod Numbers
 pub mod RowValues
 pub mod Texts
+pub mod Tallies

@@ -77,3 +77,7 @@ puts_line line xs i d before middle after waiting rest room now within put made 
     let next = puts_after_room before middle after waiting (flat_map line (take i xs)) rest put room (line (get_or xs i d)) made
     in subst (λ (t : List ℕ). Puts before waiting (flat_map line (take (i + 1) xs)) after t) (sym added)
     (subst (λ (t : List ℕ). Puts before waiting t after (room ++ line (get_or xs i d))) (flat_map-next line xs i d within) next)
+
+-- one piece of text more behind what was there
+pub behind_both : (before text more : List ℕ) (now next : List ℕ) → now ≡ before ++ text → next ≡ now ++ more → next ≡ before ++ (text ++ more)
+behind_both before text more now next h g = g ∙ ap (λ (t : List ℕ). t ++ more) h ∙ append_assoc before text more

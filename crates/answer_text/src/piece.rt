@@ -58,6 +58,16 @@ impl Piece {
         self.push(buffer.format(number).as_bytes());
     }
 
+    /// Adds a number of up to 128 bits in decimal, which takes at most 39 digits.
+    pub fn push_wide_number(&mut self, number: u128)
+        requires { length self.old + 39 ≤ PIECE_LEN }
+        ensures digits { self.new ≡ self.old ++ decimal number }
+        ensures short { length self.new ≤ length self.old + 39 }
+    {
+        let mut buffer = Buffer::new();
+        self.push(buffer.format(number).as_bytes());
+    }
+
     /// Writes out what waits.
     pub fn write_out<O: Sink>(&mut self, out: &mut O) -> Result<(), Failed>
         ensures appended { OnOk result (Appends (O.written out.old) self.old (O.written out.new)) }

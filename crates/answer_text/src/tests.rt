@@ -4,7 +4,7 @@ ghost use Rattle.graph_core.specs.Parts.{place_count};
 ghost use Rattle.graph_core.specs.Fragments.{fragment_of};
 ghost use Rattle.answer_text.specs.Worked.{scattered};
 
-use crate::{Answer, AnswerRow, Kind, assemble, write_answer};
+use crate::{Answer, AnswerRow, Kind, assemble, summary, write_answer, write_summary};
 use grape_port::{Failed, MemSink, NoMemory};
 use graph_core::{Cut, FAR, Fragment, FragmentParts, Graph, Job, Policy, Query, Rows, Settings};
 use pie_core::Local;
@@ -145,5 +145,34 @@ fn an_owner_gives_the_value_of_its_vertex(rt: HostRuntime) -> Result<(), Fail> {
     let rows = [(1, 7), (2, 5), (3, 9)].map(|(id, value)| AnswerRow { id, value });
     assert_eq!(rt; answer.kind, Kind::Label);
     assert_eq!(rt; answer.rows.as_slice(), rows.as_slice());
+    Ok(())
+}
+
+#[test]
+fn totals_have_a_line(rt: HostRuntime) -> Result<(), Fail> {
+    let row = |id: u32, value: u64| AnswerRow { id, value };
+    let rows = vec![in rt.alloc(); row(1, u64::MAX), row(2, FAR), row(3, 7)]?;
+    let totals = summary(&Answer {
+        kind: Kind::Dist,
+        rows,
+    });
+    let mut sink = MemSink::new(rt.alloc(), 100, 7, Vec::new(rt.alloc()))?;
+    assert_eq!(rt; write_summary(&totals, &mut sink), Ok(()));
+    // 2^64 - 1 and 7 together
+    let line = "summary dist 3 reached 2 sum 18446744073709551622 greatest 18446744073709551615\n";
+    assert_eq!(rt; sink.bytes(), line.as_bytes());
+    Ok(())
+}
+
+#[test]
+fn a_failed_write_leaves_a_front_of_the_line(rt: HostRuntime) -> Result<(), Fail> {
+    let totals = summary(&Answer {
+        kind: Kind::Dist,
+        rows: Vec::new(rt.alloc()),
+    });
+    let fails = Vec::from_slice(rt.alloc(), &[3])?;
+    let mut sink = MemSink::new(rt.alloc(), 60, 4, fails)?;
+    assert_eq!(rt; write_summary(&totals, &mut sink), Err(Failed));
+    assert_eq!(rt; sink.bytes(), b"summary ".as_slice());
     Ok(())
 }
