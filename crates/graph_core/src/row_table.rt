@@ -1,15 +1,16 @@
-ghost use Rattle.std.specs.Prelude.{◌≡◌, ◌<◌, ◌==◌, [], ◌∷◌, ◌++◌, length, slice_index_or, vec_len, IfOk, OnOk, OnErr};
+ghost use Rattle.std.specs.Prelude.{◌≡◌, ◌<◌, ◌+◌, ◌==◌, [], ◌∷◌, ◌++◌, length, slice_index_or, vec_len, IfOk, OnOk, OnErr};
 ghost use Rattle.graph_core.specs.RowTable.{AreOffsets, rows_at};
 
 use grape_port::NoMemory;
 use std::alloc::Global;
 use std::marker::Model;
 
-/// A list of lists, the rows, whose items stand in one vector. It takes 8 bytes a row beside the items.
+/// A list of lists, the rows, whose items stand in one vector. It takes 4 bytes a row beside the items, of which there
+/// are at most 4,294,967,295.
 #[derive(Drop)]
 pub struct Rows<T> {
     items: Vec<T>,
-    offsets: Vec<usize>,
+    offsets: Vec<u32>,
 }
 
 impl<T> Model for Rows<T> {
@@ -21,6 +22,17 @@ impl<T> Model for Rows<T> {
     ghost view = { λ r. rows_at r.items.items r.offsets.items };
 
     ghost invariant = { λ r. AreOffsets r.offsets.items (vec_len r.items) };
+}
+
+/// The offset at which a row of so many items ends that begins at `start`. The error comes where no offset is so large.
+fn end_after(start: usize, count: usize) -> Result<u32, NoMemory>
+    ensures { IfOk result (λ end. end ≡ start + count) }
+{
+    let largest = u32::MAX as usize;
+    if start > largest || count > largest - start {
+        return Err(NoMemory);
+    }
+    Ok((start + count) as u32)
 }
 
 impl<T: Copy> Rows<T> {
@@ -36,7 +48,7 @@ impl<T: Copy> Rows<T> {
 
     /// The rows over these items whose offsets these are: row `i` has the items from offset `i` up to
     /// offset `i + 1`.
-    pub fn from_offsets(items: Vec<T>, offsets: Vec<usize>) -> Rows<T>
+    pub fn from_offsets(items: Vec<T>, offsets: Vec<u32>) -> Rows<T>
         requires { AreOffsets offsets.items (vec_len items) }
         ensures { result ≡ rows_at items.items offsets.items }
     {
@@ -64,17 +76,18 @@ impl<T: Copy> Rows<T> {
     {
         let start = self.offsets[index];
         let end = self.offsets[index + 1];
-        &self.items[start..end]
+        &self.items[start as usize..end as usize]
     }
 
-    /// Adds a row after the others. Where memory runs out the rows stay as they were.
+    /// Adds a row after the others. Where memory runs out, or the rows would have more than 4,294,967,295 items,
+    /// the error comes and the rows stay as they were.
     pub fn push_row(&mut self, row: &[T]) -> Result<(), NoMemory>
         ensures ok { OnOk result (self.new ≡ self.old ++ row.now ∷ []) }
         ensures err { OnErr result (self.new ≡ self.old) }
     {
         let start = self.items.len();
+        let end = end_after(start, row.len())?;
         self.items.extend_from_slice(row).map_err(|_| NoMemory)?;
-        let end = self.items.len();
         if self.offsets.push(end).is_err() {
             self.items.truncate(start);
             return Err(NoMemory);
