@@ -1,9 +1,11 @@
 -- Rows kept as items and offsets.
-use Rattle.std.proofs.Common.{Bool, true, false, cond, inl, inr, ◌≡◌, ℕ, ◌+◌, ◌-◌, ◌<◌, ◌≤◌, List, [], ◌∷◌, ◌++◌, length, get_or, map, take, drop, refl, sym, ◌∙◌, ap, arith}
+use Rattle.std.proofs.Common.{Bool, true, false, cond, inl, inr, ◌≡◌, ℕ, zero, suc, ◌+◌, ◌-◌, ◌<◌, ◌≤◌, List, [], ◌∷◌, ◌++◌, length, get_or, map, take, drop, refl, sym, ◌∙◌, ap, arith}
+use Rattle.std.specs.Prelude.{sum_by}
 use Rattle.std.specs.List.{range_with_len, slice_range}
 use Rattle.std.proofs.lemmas.Bool.{cases_lt}
-use Rattle.std.proofs.lemmas.List.{take-append-le, drop-append-le, length-drop, length-append, take_all, drop_all, get_or-append-add, get_or_append_left, get_or_read}
+use Rattle.std.proofs.lemmas.List.{take-append-le, drop-append-le, length-take-le, length-drop, length-append, take_all, drop_all, get_or-append-add, get_or_append_left, get_or_read}
 use Rattle.std.proofs.lemmas.List.FromFn.{get_or-map-range_with_len, length-map-range_with_len, map-range_with_len_more, fill_by_all}
+use Rattle.std.proofs.lemmas.List.Sums.{sum_by-cons, sum_by-append}
 use Rattle.graph_core.specs.RowTable.{AreOffsets, row_at, rows_at}
 
 module _ {T : Type 0} where
@@ -73,6 +75,27 @@ module _ {T : Type 0} where
       ∙ map-range_with_len_more (row_at (items ++ row) (offsets ++ end ∷ [])) 0 (length offsets - 1) (length offsets - 1) (omega arith)
       ∙ ap (λ rs. rs ++ row_at (items ++ row) (offsets ++ end ∷ []) (length offsets - 1) ∷ []) old
       ∙ ap (λ r. rows_at items offsets ++ r ∷ []) (row-new items row offsets end are e)
+
+-- the rows have all items
+module _ {T : Type 0} (items : List T) (offsets : List ℕ) (count : ℕ) (are : AreOffsets offsets count) (all : count ≡ length items) where
+  length-row_at : (k : ℕ) → k + 1 < length offsets → get_or offsets k 0 + length (row_at items offsets k) ≡ get_or offsets (k + 1) 0
+  length-row_at k h =
+      let rise = offsets-rise offsets count k are h in
+      let inside = offset-le offsets count (k + 1) are h in
+      omega (arith, rise, inside, all, length-drop (get_or offsets k 0) items, length-take-le (get_or offsets (k + 1) 0 - get_or offsets k 0) (drop (get_or offsets k 0) items) (omega (arith, rise, inside, all, length-drop (get_or offsets k 0) items)))
+
+  rows_total : (n : ℕ) → n < length offsets → sum_by (λ (row : List T). length row) (map (row_at items offsets) (range_with_len 0 n)) ≡ get_or offsets n 0
+  rows_total zero h = sym are.first
+  rows_total (suc n) h =
+      let n1 : suc n ≡ n + 1 = omega arith in
+      ap (λ m. sum_by (λ (row : List T). length row) (map (row_at items offsets) (range_with_len 0 m))) n1
+      ∙ ap (sum_by (λ (row : List T). length row)) (map-range_with_len_more (row_at items offsets) 0 n n (omega arith))
+      ∙ sum_by-append (λ (row : List T). length row) (map (row_at items offsets) (range_with_len 0 n)) (row_at items offsets n ∷ [])
+      ∙ omega (arith, rows_total n (omega (arith, h)), length-row_at n (omega (arith, h)), sum_by-cons (λ (row : List T). length row) (row_at items offsets n) [])
+      ∙ ap (λ m. get_or offsets m 0) (sym n1)
+
+  pub total_is : (rows : List (List T)) (last : ℕ) → rows_at items offsets ≡ rows → last ≡ get_or offsets (length offsets - 1) 0 → last ≡ sum_by (λ (row : List T). length row) rows
+  total_is rows last e f = f ∙ sym (rows_total (length offsets - 1) (omega (arith, are.some))) ∙ ap (sum_by (λ (row : List T). length row)) e
 
 -- where a row stands among the items, and what it is
 pub record StandsIn {T : Type 0} (items : List T) (rows : List (List T)) (start end index : ℕ) : Type 0 where

@@ -1,4 +1,4 @@
-ghost use Rattle.std.specs.Prelude.{◌≡◌, ◌<◌, ◌+◌, ◌==◌, [], ◌∷◌, ◌++◌, length, slice_index_or, vec_len, IfOk, OnOk, OnErr};
+ghost use Rattle.std.specs.Prelude.{◌≡◌, ◌<◌, ◌+◌, ◌==◌, [], ◌∷◌, ◌++◌, length, sum_by, slice_index_or, vec_len, IfOk, OnOk, OnErr};
 ghost use Rattle.graph_core.specs.RowTable.{AreOffsets, rows_at};
 
 use grape_port::NoMemory;
@@ -67,6 +67,13 @@ impl<T: Copy> Rows<T> {
         ensures { result ≡ (length self.now == 0) }
     {
         self.len() == 0
+    }
+
+    /// How many items all rows have together.
+    pub fn total(&self) -> u32
+        ensures { result ≡ sum_by (λ row. length row) self.now }
+    {
+        self.offsets[self.offsets.len() - 1]
     }
 
     /// The row with this index.
