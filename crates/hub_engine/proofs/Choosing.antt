@@ -61,9 +61,9 @@ module _ (h : HubValues) (t : Tables) (kept : IsHub h) (fits : TablesFit (machin
       omega (arith, sizes, parts, pieces, count, workers, desks)
 
   pub choice_found : (lane : ℕ) → lane < h.job.settings.lanes → has_work_out (state_of h) lane ≡ false → has_ended (reverse h.journal.events) ≡ false →
-      (sight : Sight) → sight.policy ≡ h.job.settings.policy → sight.clock ≡ length h.journal.events → sight.due ≡ is_due h.job.settings.snapshot t.counts → (seen looked : List Desk) → seen ≡ t.desks → looked ≡ t.desks →
-      IsLeastRound seen sight.least → (found : Option (Kind × ℕ)) → found ≡ first_of_kinds sight t.probe t.cut looked t.turn kinds → IsChoice (machine h) (state_of h) lane found
-  choice_found lane below free going sight policy clock due seen looked same same' least found f =
-      subst (IsChoice (machine h) (state_of h) lane) (sym (f ∙ ap (λ ds. first_of_kinds sight t.probe t.cut ds t.turn kinds) same'))
+      (sight : Sight) → sight.policy ≡ h.job.settings.policy → sight.clock ≡ length h.journal.events → sight.due ≡ is_due h.job.settings.snapshot t.counts → (looked : List Desk) → looked ≡ t.desks →
+      IsLeastRound t.desks sight.least → (found : Option (Kind × ℕ)) → found ≡ first_of_kinds sight t.probe t.cut looked t.turn kinds → IsChoice (machine h) (state_of h) lane found
+  choice_found lane below free going sight policy clock due looked same least found f =
+      subst (IsChoice (machine h) (state_of h) lane) (sym (f ∙ ap (λ ds. first_of_kinds sight t.probe t.cut ds t.turn kinds) same))
       (is_choice (machine h) (state_of h) (counted_of h kept) h.counters t fits (ended_is h ∙ going) sight policy (clock ∙ sym (ap (λ (past : List Event). length past) (past_of h) ∙ length-reverse h.journal.events))
-      (subst (λ ds. IsLeastRound ds sight.least) same least) (due ∙ due_is (machine h) (state_of h) t.counts fits.are_counts) lane below free)
+      least (due ∙ due_is (machine h) (state_of h) t.counts fits.are_counts) lane below free)

@@ -1,5 +1,5 @@
 -- The first tables of a hub show the state in which its run begins.
-use Rattle.std.proofs.Common.{◌≡◌, ℕ, zero, suc, ◌+◌, ◌*◌, ◌<◌, ◌≤◌, Bool, true, false, if◌then◌else◌, IsTrue, refl, sym, ◌∙◌, ap, subst, arith, List, [], ◌∷◌, ◌++◌, length, map, filter, flat_map, take, replicate, slice_get, slice_index_or, append-nil, None, Some}
+use Rattle.std.proofs.Common.{◌≡◌, ℕ, zero, suc, ◌+◌, ◌*◌, ◌<◌, ◌≤◌, Bool, true, false, if◌then◌else◌, IsTrue, refl, sym, ◌∙◌, ap, subst, arith, List, [], ◌∷◌, ◌++◌, length, map, filter, flat_map, take, replicate, slice_get, slice_index_or, append-nil, count_by, cond, None, Some}
 use Rattle.std.specs.List.{AllZip, range_with_len}
 use Rattle.std.proofs.lemmas.Bool.{true≢false}
 use Rattle.std.proofs.lemmas.Option.{slice_get_within}
@@ -38,7 +38,7 @@ use Rattle.base_machine.specs.Fitness.{IsInForm}
 use Rattle.hub_engine.specs.declared.desk.Desk.{Desk}
 use Rattle.hub_engine.specs.HubValues.{HubValues}
 use Rattle.hub_engine.specs.States.{machine, state_of, works_out, IsHub}
-use Rattle.hub_engine.specs.Desks.{HasSizes, DeskFits, CutFits, CountsFit, Tables, TablesFit}
+use Rattle.hub_engine.specs.Desks.{HasSizes, DeskFits, CutFits, CountsFit, Tables, TablesFit, is_out}
 use Rattle.hub_engine.specs.Posting.{with_posts}
 use Rattle.hub_engine.specs.Openings.{IsPartFor, IsEmptyCut, is_fresh_phase, with_start_mail, new_desk, new_desks}
 use Rattle.hub_engine.proofs.Mail.{no_posts_met}
@@ -185,6 +185,14 @@ desks_many order counters [] [] h = refl
 desks_many order counters [] (p ∷ parts) h = absurd h
 desks_many order counters (f ∷ fragments) [] h = absurd h
 desks_many order counters (f ∷ fragments) (p ∷ parts) h = let k = desks_many order counters fragments parts h.1 in omega (arith, k)
+
+pub all_here : (order : Order) (counters : ℕ) (fragments : List FragmentLists) (parts : List PartValues) → count_by is_out (new_desks order counters fragments parts) ≡ 0
+all_here order counters [] parts = refl
+all_here order counters (f ∷ fragments) [] = refl
+all_here order counters (f ∷ fragments) (p ∷ parts) =
+    let more = sum_by-cons (λ (d : Desk). cond (is_out d) 1 0) (new_desk order counters f p) (new_desks order counters fragments parts) in
+    let again = all_here order counters fragments parts in
+    omega (arith, more, again)
 
 -- ---- the first tables
 

@@ -1,5 +1,5 @@
 -- A hub that gets a Work back.
-use Rattle.std.proofs.Common.{◌≡◌, ℕ, ◌+◌, ◌-◌, ◌^◌, ◌<◌, ◌≤◌, Bool, false, not, ◌&&◌, if◌then◌else◌, IsTrue, refl, sym, ◌∙◌, ap, subst, arith, List, [], ◌∷◌, ◌++◌, length, length-append, length-set, take, drop, reverse, slice_get, slice_set, slice_index, slice_index_or, Some}
+use Rattle.std.proofs.Common.{◌≡◌, ℕ, ◌+◌, ◌-◌, ◌^◌, ◌<◌, ◌≤◌, Bool, false, not, ◌&&◌, if◌then◌else◌, IsTrue, refl, sym, ◌∙◌, ap, subst, arith, List, [], ◌∷◌, ◌++◌, length, length-append, length-set, take, drop, reverse, slice_get, slice_set, slice_index, slice_index_or, count_by, Some}
 use Rattle.std.specs.Option.{is_some}
 use Rattle.std.proofs.lemmas.Bool.{and_from, not_from_false, lt-ltb}
 use Rattle.std.proofs.lemmas.List.{length-map, length-reverse, append-nil, take_all}
@@ -22,7 +22,7 @@ use Rattle.hub_engine.specs.declared.sender.Sender.{Sender}
 use Rattle.hub_engine.specs.declared.work.Work.{Work}
 use Rattle.hub_engine.specs.HubValues.{HubValues}
 use Rattle.hub_engine.specs.States.{machine, state_of, works_out, sealed_epoch, IsHub}
-use Rattle.hub_engine.specs.Desks.{Tables, TablesFit, rested_desk}
+use Rattle.hub_engine.specs.Desks.{Tables, TablesFit, rested_desk, is_out}
 use Rattle.hub_engine.specs.Posting.{posted, LeadToDesks, ChangesAreValues, AllCanReceive, HasMailOf, recorded_with}
 use Rattle.hub_engine.specs.Calls.{Appended, MayGive}
 use Rattle.hub_engine.proofs.Hubs.{past_of, ended_is, counted_of, piece_count, workers_are, few_workers, same_machine, state_grown, hub_grown}
@@ -31,6 +31,7 @@ use Rattle.hub_engine.proofs.Waiting.{FewWait, few_kept, few_begin, some_take, o
 use Rattle.hub_engine.proofs.Clocks.{in_time}
 use Rattle.hub_engine.proofs.Given
 use Rattle.hub_engine.proofs.Given.{CanGive, posted_length}
+use Rattle.hub_engine.proofs.Totals
 
 -- no more batches wait than there are events
 few_of : (h : HubValues) → IsHub h → FewWait (state_of h)
@@ -183,6 +184,12 @@ module _ {h : HubValues} (hub : IsHub h) {t : Tables} (fits : TablesFit (machine
   hub_after new more spare =
       hub_grown h new (Give i) more hub admitted
       (λ last. owed_less (works_out (state_after (machine h) s (Give i)).workers) (works_out s.workers) (kept_owed s) h.journal.spare new.journal.spare (one_back (machine h) s.workers i may.out.in_range may.out.running) (hub.room going) spare)
+
+  pub some_out : 1 ≤ count_by is_out t.desks
+  some_out = Totals.some_out h t i may.out.in_range may.out.running fits
+
+  pub one_less_out : (new : HubValues) (after : Tables) → Appended h (Give i) new → TablesFit (machine new) (state_of new) h.counters after → count_by is_out after.desks + 1 ≡ count_by is_out t.desks
+  one_less_out new after more now = Totals.one_less h new t after i may.out.in_range may.out.running fits more now
 
   -- the tables after it
   abbrev pub tables_with : List Desk → CutValues → Tables

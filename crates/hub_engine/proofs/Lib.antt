@@ -33,4 +33,5 @@ pub mod Hearings
 pub mod Snapshots
 pub mod Seals
 pub mod Sealings
+pub mod Totals
 pub mod Passes

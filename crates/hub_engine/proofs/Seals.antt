@@ -163,7 +163,7 @@ sealed_in epoch t =
     record { routes = t.routes; desks = map folded_desk t.desks; probe = t.probe; cut = after_seal t.cut; counts = record { epoch = t.counts.epoch; takes = t.counts.takes; sealed = Some epoch }; turn = t.turn }
 
 -- an element of a list is that of the list before each was changed
-got_mapped : {X : Type 0} (f : X → X) (xs : List X) (i : ℕ) (y : X) → slice_get (map f xs) i ≡ Some y → (x : X) × (slice_get xs i ≡ Some x) × (y ≡ f x)
+pub got_mapped : {X : Type 0} (f : X → X) (xs : List X) (i : ℕ) (y : X) → slice_get (map f xs) i ≡ Some y → (x : X) × (slice_get xs i ≡ Some x) × (y ≡ f x)
 got_mapped f [] i y h = absurd (some-none (slice_get (map f []) i) y h refl)
 got_mapped {X = X} f (x ∷ xs) zero y h = (x, refl, ap (λ (o : Option X). elim o as (λ _. X) [ None ↦ y | Some z ↦ z ]) (sym h))
 got_mapped f (x ∷ xs) (suc i) y h = got_mapped f xs i y h

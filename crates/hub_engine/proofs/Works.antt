@@ -47,7 +47,7 @@ module _ (old new : HubValues) (t : Tables) (i lane : ℕ) (d : Desk) (kept : Is
   taker : worker_at (state_after (machine old) (state_of old) (Take i lane)).workers i ≡ after_taking (machine old) (piece_at (machine old).pieces i) (gives_of_each (numbers_below (worker_count (state_of old))) (state_of old).past) (worker_at (state_of old).workers i)
   taker = taker_is (machine old) (state_of old) old.counters t i lane d (counted_of old kept) fits here
 
-  one_more_out : works_out (state_after (machine old) (state_of old) (Take i lane)).workers ≡ works_out (workers_of old) + 1
+  pub one_more_out : works_out (state_after (machine old) (state_of old) (Take i lane)).workers ≡ works_out (workers_of old) + 1
   one_more_out =
       let w' = after_taking (machine old) (piece_at (machine old).pieces i) (gives_of_each (numbers_below (worker_count (state_of old))) (state_of old).past) (worker_at (state_of old).workers i) in
       let o = out_set (workers_of old) i w' in_range in

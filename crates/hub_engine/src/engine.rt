@@ -1,4 +1,4 @@
-ghost use Rattle.std.specs.Prelude.{◌≡◌, ◌&&◌, not, ◌+◌, ◌<◌, ◌≤◌, [], None, true, false, nat_lt, if◌then◌else◌, count_by, length, reverse, IfOk, IfSome, OnOk, OnErr};
+ghost use Rattle.std.specs.Prelude.{◌≡◌, ◌&&◌, not, ◌+◌, ◌<◌, ◌≤◌, [], None, true, false, nat_lt, if◌then◌else◌, length, reverse, IfOk, IfSome, OnOk, OnErr};
 ghost use Rattle.graph_core.specs.Graphs.{IsJob};
 ghost use Rattle.graph_core.specs.Fragments.{fragments_of};
 ghost use Rattle.grape_event.specs.declared.event.Event.TheVariants.{Take, Give, Begin, Mark, Seal, Kept, Stop};
@@ -11,7 +11,6 @@ ghost use Rattle.hub_engine.specs.States.{machine, state_of, workers_of, sealed_
 ghost use Rattle.hub_engine.specs.Choices.{IsChoice};
 ghost use Rattle.hub_engine.specs.Calls.{Appended, AppendedUnlessEnded, Unchanged, Begins, Chooses, ChoosesDuty, TakesWorker, MayStretch, StretchesWorker, IsNote, NotesEvent, NotesDuty, SealsEpoch, WritesSealed, HasSizesOf, MayKeep, ReadyWhereTook, MayGive, AreGivenUp, HaveValues, HaveStartValues, HaveSizes};
 ghost use Rattle.token_cut.specs.Parts.{part_at};
-ghost use Rattle.hub_engine.specs.Desks.{is_out};
 
 use crate::choice::{first_of_kinds, least_round};
 use crate::counts::Counts;
@@ -51,17 +50,22 @@ pub struct Engine<P: Pie, Q: Pacer> {
     counts: Counts,
     journal: Journal,
     turn: u32,
+    /// The least round of a busy worker, where one is busy.
+    least: Option<u64>,
+    /// How many workers are out, at most 64.
+    out: u64,
     start: Snapshot,
     /// Empty, with room for a Local of each worker, so that the end takes no memory.
     locals: Vec<Local>,
 }
 
 impl<P: Pie, Q: Pacer> Model for Engine<P, Q> {
-    ghost use Rattle.std.specs.Prelude.{◌≡◌, ◌≤◌, [], length};
+    ghost use Rattle.std.specs.Prelude.{◌≡◌, ◌≤◌, [], length, count_by};
     ghost use Rattle.std.specs.Vec.{vec_capacity};
     ghost use Rattle.hub_engine.specs.HubValues.{HubValues};
     ghost use Rattle.hub_engine.specs.States.{machine, state_of, IsHub};
-    ghost use Rattle.hub_engine.specs.Desks.{TablesFit};
+    ghost use Rattle.hub_engine.specs.Desks.{TablesFit, is_out};
+    ghost use Rattle.hub_engine.specs.Kinds.{IsLeastRound};
 
     ghost Value = { HubValues };
 
@@ -71,7 +75,8 @@ impl<P: Pie, Q: Pacer> Model for Engine<P, Q> {
         × IsHub (record { job = h.job; counters = P.counters_for h.job; start = h.start; journal = h.journal })
         × TablesFit (machine (record { job = h.job; counters = P.counters_for h.job; start = h.start; journal = h.journal })) (state_of (record { job = h.job; counters = P.counters_for h.job; start = h.start; journal = h.journal })) (P.counters_for h.job)
         (record { routes = h.routes.items; desks = h.desks.items; probe = h.probe; cut = h.cut; counts = h.counts; turn = h.turn })
-        × (h.locals.items ≡ []) × (length h.desks.items ≤ vec_capacity h.locals) };
+        × (h.locals.items ≡ []) × (length h.desks.items ≤ vec_capacity h.locals)
+        × IsLeastRound h.desks.items h.least × (h.out ≡ count_by is_out h.desks.items) };
 }
 
 impl<P: Pie, Q: Pacer> Engine<P, Q> {
@@ -98,9 +103,12 @@ impl<P: Pie, Q: Pacer> Engine<P, Q> {
         let counters = program.counters();
         let mut journal = Journal::new(alloc);
         journal.reserve(1)?;
+        let desks = desks_of(alloc, fragments, &start, order, counters)?;
         Ok(Engine {
             routes: routes_of(alloc, fragments)?,
-            desks: desks_of(alloc, fragments, &start, order, counters)?,
+            least: least_round(&desks),
+            out: 0,
+            desks,
             cut: cut_of(alloc, job, fragments, order)?,
             counts: Counts {
                 epoch: start.epoch,
@@ -124,7 +132,7 @@ impl<P: Pie, Q: Pacer> Engine<P, Q> {
     /// with its token waits doesn't take, and while a snapshot is due nobody takes. `Idle` comes exactly where none is
     /// admitted. The journal hasn't ended, and the lane has no Work out. Room for the event, for a Give of each worker
     /// that is out, for the Kept of a sealed snapshot and for a Stop is made first; then the worker's pacer is asked,
-    /// once for each Stretch.
+    /// once for each Stretch. Looks at each worker once.
     pub fn next(&mut self, lane: u32) -> Next
         requires lane { lane < self.old.job.settings.lanes }
         requires free { has_work_out (state_of self.old) lane ≡ false }
@@ -211,7 +219,7 @@ impl<P: Pie, Q: Pacer> Engine<P, Q> {
         let sight = Sight {
             policy: self.job.settings.policy,
             clock: self.journal.len(),
-            least: least_round(&self.desks),
+            least: self.least,
             due: self.counts.is_due(self.job.settings.snapshot),
         };
         first_of_kinds(
@@ -311,7 +319,7 @@ impl<P: Pie, Q: Pacer> Engine<P, Q> {
         ensures room { result ≡ events_owed (state_of self.now) + events }
         ensures hub { IsHub self.now }
     {
-        works_out(&self.desks) + self.counts.kepts_owed() + 1 + events
+        self.out + self.counts.kepts_owed() + 1 + events
     }
 
     /// Appends the Take of a worker that isn't out.
@@ -333,6 +341,7 @@ impl<P: Pie, Q: Pacer> Engine<P, Q> {
         self.journal.push(event);
         self.turn = following(worker, count);
         self.counts.takes += 1;
+        self.out += 1;
         Next::Took(Work {
             worker,
             place,
@@ -395,7 +404,7 @@ impl<P: Pie, Q: Pacer> Engine<P, Q> {
     /// Appends the Give of the Work that the lane has out, and sends each owned value that became lower along its
     /// routes. The values are the local solution of those at the Take lowered by the hand. While a recording is open
     /// the batches of a marked worker carry its token, and those of another lower what is recorded of marked workers.
-    /// The journal hasn't ended, and has room for the Give since the Take.
+    /// The journal hasn't ended, and has room for the Give since the Take. Looks at each worker once.
     pub fn give(&mut self, lane: u32, work: Work)
         requires work { MayGive self.old lane work }
         requires going { has_ended (reverse self.old.journal.events) ≡ false }
@@ -423,6 +432,9 @@ impl<P: Pie, Q: Pacer> Engine<P, Q> {
         post_changes(sender, routes, &local, &mut self.desks, &mut self.cut);
         local.settle();
         self.desks[index].rest(round, local, hand);
+        self.out -= 1;
+        let least = least_round(&self.desks);
+        self.least = least;
     }
 
     /// The journal so far.
@@ -494,19 +506,6 @@ fn may_once_closed(recording: bool, may: bool) -> bool
     ensures { result ≡ (not recording && may) }
 {
     !recording && may
-}
-
-/// How many workers are out.
-fn works_out(desks: &[Desk]) -> u64
-    ensures { result ≡ count_by is_out desks.now }
-{
-    let mut count = 0;
-    'desks: for desk in desks {
-        if desk.is_out() {
-            count += 1;
-        }
-    }
-    count
 }
 
 /// The worker after this one, of so many, in turn.

@@ -23,6 +23,8 @@ invariant_of-self g c =
       subst (λ (j : JournalList). TablesFit (machine (h j)) (state_of (h j)) (g.P.Pie.counters_for c.self.inside.job) t) (sym e) k.2,
       k.3,
       k.4,
+      k.5,
+      k.6,
     )
 
 pub begin-requires : goal.begin-requires
@@ -48,6 +50,8 @@ invariant_of-self-2 g c =
           (begun_tables old new t c.args.epoch c.self.invariant.1 c.self.invariant.2 a more),
       c.self.invariant.3,
       c.self.invariant.4,
+      c.self.invariant.5,
+      c.self.invariant.6,
     )
 
 pub returns-clause-hub : goal.returns-clause-hub

@@ -8,6 +8,7 @@ use Rattle.hub_engine.specs.States.{machine}
 use Rattle.base_machine.specs.Machine.{posts_to}
 use Rattle.pie_core.specs.Locals.{LocalValues}
 use Rattle.pie_core.specs.LocalCalls.{settled}
+use Rattle.hub_engine.specs.Kinds.{IsLeastRound}
 use Rattle.hub_engine.specs.Posting.{LeadToDesks, AllCanReceive, ChangesAreValues, HasMailOf, posted, recorded_with}
 use Rattle.hub_engine.proofs.Gives
 use Rattle.hub_engine.proofs.engine.Engine.give.Goals as goal
@@ -95,14 +96,18 @@ invariant_of-self g c =
     let settles = c.settle.ensures ∙ ap settled c.gather_fallen.ensures in
     let long = Gives.written_length c.self.invariant.1 c.self.invariant.2 may going c.self.inside.desks.len c.post_changes.new.desks c.deref_mut.result.now c.index-routes.result.now
     sender c.rest.new.self posts c.deref_mut.ensures.value c.self.inside.desks.ok.0 in
-    let room = c.self.invariant.4 in (
+    let room = c.self.invariant.4 in
+    let after =
+    Gives.tables_written c.self.invariant.1 c.self.invariant.2 may going new (refl, refl, c.push.ensures.events, refl) c.self.inside.desks.len c.post_changes.new.desks
+    c.deref_mut.result.now c.index-routes.result.now c.settle.new.self c.index_mut.result.now sender c.rest.new.self c.post_changes.new.cut posts rows c.deref_mut.ensures.value c.self.inside.desks.ok.0 settles
+    c.index_mut.ensures.value sends c.rest.ensures late in (
       c.self.invariant.0,
       Gives.hub_after c.self.invariant.1 c.self.invariant.2 may going new (refl, refl, c.push.ensures.events, refl) c.push.ensures.spare,
-      Gives.tables_written c.self.invariant.1 c.self.invariant.2 may going new (refl, refl, c.push.ensures.events, refl) c.self.inside.desks.len c.post_changes.new.desks
-          c.deref_mut.result.now c.index-routes.result.now c.settle.new.self c.index_mut.result.now sender c.rest.new.self c.post_changes.new.cut posts rows c.deref_mut.ensures.value c.self.inside.desks.ok.0 settles
-          c.index_mut.ensures.value sends c.rest.ensures late,
+      after,
       c.self.invariant.3,
       omega (arith, long, room),
+      subst (λ (l : List Desk). IsLeastRound l c.least_round-least.result) c.deref.ensures.value c.least_round-least.ensures,
+      (let less = Gives.one_less_out c.self.invariant.1 c.self.invariant.2 may going new _ (refl, refl, c.push.ensures.events, refl) after in let o = c.self.invariant.6 in omega (arith, less, o)),
     )
 
 pub returns-clause-hub : goal.returns-clause-hub
@@ -111,3 +116,9 @@ returns-clause-hub g c =
     let going = Gives.going_here c.self.view_is c.requires.going in
     let new : HubValues = record { job = c.self.inside.job; counters = g.P.Pie.counters_for c.self.inside.job; start = c.self.inside.start; journal = c.push.new.self } in
     Gives.hub_after c.self.invariant.1 c.self.invariant.2 may going new (refl, refl, c.push.ensures.events, refl) c.push.ensures.spare
+
+pub overflow_sub-self : goal.overflow_sub-self
+overflow_sub-self g c =
+    let some = Gives.some_out c.self.invariant.1 c.self.invariant.2 (Gives.may_here c.self.view_is c.requires.work) (Gives.going_here c.self.view_is c.requires.going) in
+    let out = c.self.invariant.6 in
+    omega (arith, some, out)

@@ -38,6 +38,8 @@ invariant_of-self g c =
       kept_tables old new t c.args.epoch c.self.invariant.1 c.self.invariant.2 (refl, refl, c.push.ensures.events, refl),
       c.self.invariant.3,
       c.self.invariant.4,
+      c.self.invariant.5,
+      c.self.invariant.6,
     )
 
 pub returns-clause-hub : goal.returns-clause-hub

@@ -22,6 +22,8 @@ invariant_of-self g c =
       subst (λ (j : JournalList). TablesFit (machine (h j)) (state_of (h j)) (g.P.Pie.counters_for c.self.inside.job) t) (sym e) k.2,
       k.3,
       k.4,
+      k.5,
+      k.6,
     )
 
 pub hear-requires : goal.hear-requires
@@ -46,6 +48,8 @@ invariant_of-self-2 g c =
       subst (λ (p : ProbeValues). TablesFit (machine new) (state_of new) old.counters (record { routes = t.routes; desks = t.desks; probe = p; cut = t.cut; counts = t.counts; turn = t.turn })) (sym c.hear.ensures) after,
       c.self.invariant.3,
       c.self.invariant.4,
+      c.self.invariant.5,
+      c.self.invariant.6,
     )
 
 pub returns-clause-hub : goal.returns-clause-hub

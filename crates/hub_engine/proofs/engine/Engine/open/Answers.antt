@@ -1,4 +1,4 @@
-use Rattle.std.proofs.Common.{◌≡◌, refl, sym, ◌∙◌, ap, subst, arith, length, None}
+use Rattle.std.proofs.Common.{◌≡◌, refl, sym, ◌∙◌, ap, subst, arith, List, length, count_by, None}
 use Rattle.std.proofs.lemmas.Slice.Zip.{AllZip-long}
 use Rattle.graph_core.specs.Equations.{Equations}
 use Rattle.graph_core.specs.Queries.{equations_of}
@@ -8,10 +8,12 @@ use Rattle.token_cut.specs.Parts.{SnapshotParts}
 use Rattle.token_cut.specs.contracts.snapshot.Snapshot.{the_view as start_view}
 use Rattle.base_machine.specs.Machine.{system_of}
 use Rattle.base_machine.specs.Fitness.{IsInForm}
-use Rattle.hub_engine.specs.Desks.{Tables}
+use Rattle.hub_engine.specs.declared.desk.Desk.{Desk}
+use Rattle.hub_engine.specs.Desks.{Tables, is_out}
+use Rattle.hub_engine.specs.Kinds.{IsLeastRound}
 use Rattle.hub_engine.specs.Openings.{IsPartFor, new_desks}
 use Rattle.hub_engine.proofs.Opening.{all_few, all_fit, few_fragments}
-use Rattle.hub_engine.proofs.First.{opens, desks_many}
+use Rattle.hub_engine.proofs.First.{opens, desks_many, all_here}
 use Rattle.hub_engine.proofs.engine.Engine.open.Goals as goal
 
 pub routes_of-requires : goal.routes_of-requires
@@ -41,17 +43,25 @@ invariant_of-result-2 g c =
     let room = c.in_ok-reserve.ensures.room in
     let spare = ap (λ (j : JournalList). j.spare) c.journal.view_is in
     let form = subst (λ (s : SnapshotParts). IsInForm (system_of job) s) (sym c.start.view_is) c.requires.start in
-    let desks = c.in_ok-desks_of.ensures ∙ ap (λ (s : SnapshotParts). new_desks c.order-order.result c.counters-counters.result fragments s.parts) (sym c.start.view_is) in
+    let desks = c.in_ok-desks.ensures ∙ ap (λ (s : SnapshotParts). new_desks c.order-order.result c.counters-counters.result fragments s.parts) (sym c.start.view_is) in
     let t : Tables =
-    record { routes = c.in_ok-routes_of.field-0.items; desks = c.in_ok-desks_of.field-0.items; probe = c.new.result; cut = c.in_ok-cut_of.field-0; counts = record { epoch = c.start.inside.epoch; takes = 0; sealed = None }; turn = 0 } in
+    record { routes = c.in_ok-routes_of.field-0.items; desks = c.in_ok-desks.desks.items; probe = c.new.result; cut = c.in_ok-cut_of.field-0; counts = record { epoch = c.start.inside.epoch; takes = 0; sealed = None }; turn = 0 } in
     let kept =
     opens (λ j. g.P.Pie.is_for c.args.program j) g.P.Pie.counters_for job c.in_ok-copy.field-0 start (the_view c.journal.inside) c.counters-counters.result c.order-order.result fragments t c.requires.job c.requires.program form c.requires.fragments order counters
     c.in_ok-routes_of.ensures desks c.new.ensures c.in_ok-cut_of.ensures refl refl c.in_ok-copy.ensures begun (omega (arith, room, spare)) in
     let fit = all_fit job c.requires.job fragments c.args.start c.requires.fragments c.requires.start in
-    let many = ap length c.in_ok-desks_of.ensures ∙ desks_many c.order-order.result c.counters-counters.result fragments c.args.start.parts fit in
+    let many = ap length c.in_ok-desks.ensures ∙ desks_many c.order-order.result c.counters-counters.result fragments c.args.start.parts fit in
     let same = AllZip-long IsPartFor fragments c.args.start.parts fit in
     let places = c.in_ok-with_capacity.ensures.capacity in
-    (kept.0, kept.1, kept.2, c.in_ok-with_capacity.ensures.items, omega (arith, many, same, places))
+    let here = ap (λ (l : List Desk). count_by is_out l) desks ∙ all_here c.order-order.result c.counters-counters.result fragments start.parts in (
+      kept.0,
+      kept.1,
+      kept.2,
+      c.in_ok-with_capacity.ensures.items,
+      omega (arith, many, same, places),
+      subst (λ (l : List Desk). IsLeastRound l c.least_round.result) c.deref.ensures.value c.least_round.ensures,
+      sym here,
+    )
 
 pub returns-clause-hub : goal.returns-clause-hub
 returns-clause-hub g c = (invariant_of-result-2 g c).1

@@ -1,4 +1,4 @@
-use Rattle.std.proofs.Common.{◌≡◌, ◌≤◌, ◌+◌, true, List, [], ◌∷◌, ◌++◌, length, map, Some, None, refl, sym, ◌∙◌, ap, subst, arith}
+use Rattle.std.proofs.Common.{◌≡◌, ◌≤◌, ◌+◌, true, List, [], ◌∷◌, ◌++◌, length, map, count_by, Some, None, refl, sym, ◌∙◌, ap, subst, arith}
 use Rattle.std.proofs.lemmas.List.{length-map}
 use Rattle.std.specs.Vec.{vec_capacity}
 use Rattle.grape_event.specs.declared.event.Event.{Event}
@@ -10,10 +10,13 @@ use Rattle.legal_journal.specs.Legal.{is_admitted}
 use Rattle.hub_engine.specs.declared.desk.Desk.{Desk}
 use Rattle.hub_engine.specs.HubValues.{HubValues}
 use Rattle.hub_engine.specs.States.{machine, state_of, sealed_epoch, events_owed, IsHub}
-use Rattle.hub_engine.specs.Desks.{Tables, TablesFit, folded_desk}
+use Rattle.hub_engine.specs.Desks.{Tables, TablesFit, folded_desk, is_out}
+use Rattle.hub_engine.specs.Kinds.{IsLeastRound}
 use Rattle.hub_engine.specs.Calls.{Appended, HasSizesOf}
 use Rattle.hub_engine.proofs.Results.{at_ok, at_err}
 use Rattle.hub_engine.proofs.Sealings.{seals_complete, seals_sizes, sealed_hub, sealed_tables, sealed_written, desks_folded}
+use Rattle.hub_engine.proofs.Seals.{sealed_in}
+use Rattle.hub_engine.proofs.Totals.{least_folded, as_many_out}
 use Rattle.hub_engine.proofs.engine.Engine.seal.Goals as goal
 
 pub invariant_of-self : goal.invariant_of-self
@@ -27,6 +30,8 @@ invariant_of-self g c =
       subst (λ (j : JournalList). TablesFit (machine (h j)) (state_of (h j)) (g.P.Pie.counters_for c.self.inside.job) t) (sym e) k.2,
       k.3,
       k.4,
+      k.5,
+      k.6,
     )
 
 pub seal-requires-clause-complete : goal.seal-requires-clause-complete
@@ -57,14 +62,17 @@ invariant_of-self-2 g c =
     let spare = c.push.ensures.spare in
     let desks = desks_folded c.self.inside.desks.len c.self.inside.desks.items c.deref_mut.result.now c.fold_mail.new.desks c.deref_mut.ensures.value c.fold_mail.ensures c.self.inside.desks.ok.0 in
     let long = ap (λ (l : List Desk). length l) desks ∙ length-map c.self.inside.desks.items folded_desk in
-    let capacity = c.self.invariant.4 in (
+    let capacity = c.self.invariant.4 in
+    let tables = sealed_tables old t c.args.epoch c.self.invariant.1 c.self.invariant.2 a new more in (
       c.self.invariant.0,
       sealed_hub old t c.args.epoch c.self.invariant.1 c.self.invariant.2 a new more none (omega (arith, room, spare, owed)),
       subst (λ (ds : List Desk). TablesFit (machine new) (state_of new) old.counters (record { routes = t.routes; desks = ds; probe = t.probe; cut = c.seal.new.self; counts = record { epoch = t.counts.epoch; takes = t.counts.takes; sealed = Some c.args.epoch }; turn = t.turn })) (sym desks)
           (subst (λ (cut : CutValues). TablesFit (machine new) (state_of new) old.counters (record { routes = t.routes; desks = map folded_desk t.desks; probe = t.probe; cut = cut; counts = record { epoch = t.counts.epoch; takes = t.counts.takes; sealed = Some c.args.epoch }; turn = t.turn })) (sym c.seal.ensures.closed)
-          (sealed_tables old t c.args.epoch c.self.invariant.1 c.self.invariant.2 a new more)),
+          tables),
       c.self.invariant.3,
       subst (λ n. n ≤ vec_capacity c.self.inside.locals) (sym long) capacity,
+      subst (λ (ds : List Desk). IsLeastRound ds c.self.inside.least) (sym desks) (least_folded t.desks c.self.inside.least c.self.invariant.5),
+      c.self.invariant.6 ∙ sym (ap (λ (ds : List Desk). count_by is_out ds) desks ∙ as_many_out old new (Seal c.args.epoch) t (sealed_in c.args.epoch t) c.self.invariant.2 more tables refl),
     )
 
 pub returns-clause-written : goal.returns-clause-written

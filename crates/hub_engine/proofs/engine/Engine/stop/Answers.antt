@@ -15,6 +15,8 @@ invariant_of-self g c =
       stopped_tables old new t c.args.cause c.self.invariant.1 c.self.invariant.2 going (refl, refl, c.push.ensures.events, refl),
       c.self.invariant.3,
       c.self.invariant.4,
+      c.self.invariant.5,
+      c.self.invariant.6,
     )
 
 pub returns-clause-hub : goal.returns-clause-hub

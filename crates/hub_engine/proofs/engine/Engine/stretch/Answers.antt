@@ -9,8 +9,9 @@ use Rattle.hub_engine.specs.States.{machine, state_of, events_owed, IsHub}
 use Rattle.hub_engine.specs.Desks.{Tables, TablesFit}
 use Rattle.hub_engine.specs.Calls.{Appended, MayStretch, StretchesWorker}
 use Rattle.hub_engine.proofs.Results.{at_ok, at_err}
-use Rattle.hub_engine.proofs.Steps.{stretched_desk}
+use Rattle.hub_engine.proofs.Steps.{stretched_desk, desk_set}
 use Rattle.hub_engine.proofs.Takings.{found_at, worker_in_range, stretched_hub, stretched_tables, turns_are}
+use Rattle.hub_engine.proofs.Totals.{least_set, as_many_out}
 use Rattle.hub_engine.proofs.engine.Engine.stretch.Goals as goal
 
 pub invariant_of-self : goal.invariant_of-self
@@ -24,6 +25,8 @@ invariant_of-self g c =
       subst (λ (j : JournalList). TablesFit (machine (h j)) (state_of (h j)) (g.P.Pie.counters_for c.self.inside.job) t) (sym e) k.2,
       k.3,
       k.4,
+      k.5,
+      k.6,
     )
 
 pub index-desk-requires : goal.index-desk-requires
@@ -59,12 +62,15 @@ invariant_of-self-2 g c =
     let more : Appended old (Stretch c.args.worker turns) new = (refl, refl, c.push.ensures.events ∙ ap (λ (q : List Event). q ++ Stretch c.args.worker turns ∷ []) c.reserve.ensures.events, refl) in
     let owed = c.room_owed-room.ensures.room ∙ ap (λ (h : HubValues). events_owed (state_of h) + 1) (sym c.self.view_is) in
     let room = at_ok c.reserve.result (sym c.is_err.ensures.value ∙ c.if-is_err.false) c.reserve.ensures.room in
-    let spare = c.push.ensures.spare in (
+    let spare = c.push.ensures.spare in
+    let tables = stretched_tables old new t c.args.worker turns d c.self.invariant.1 c.self.invariant.2 here more c.len-place.result (c.len-place.ensures ∙ ap (λ (q : List Event). length q) c.reserve.ensures.events) in (
       c.self.invariant.0,
       stretched_hub old new t c.args.worker turns d c.self.invariant.1 c.self.invariant.2 here more admitted (omega (arith, room, spare, owed)),
-      stretched_tables old new t c.args.worker turns d c.self.invariant.1 c.self.invariant.2 here more c.len-place.result (c.len-place.ensures ∙ ap (λ (q : List Event). length q) c.reserve.ensures.events),
+      tables,
       c.self.invariant.3,
       (let m = length-set c.self.inside.desks.items c.args.worker (stretched_desk turns c.len-place.result d) in let q = c.self.invariant.4 in omega (arith, m, q)),
+      least_set t.desks c.args.worker d (stretched_desk turns c.len-place.result d) c.self.inside.least here refl refl c.self.invariant.5,
+      c.self.invariant.6 ∙ sym (as_many_out old new (Stretch c.args.worker turns) t (desk_set c.args.worker (stretched_desk turns c.len-place.result d) t) c.self.invariant.2 more tables refl),
     )
 
 pub returns-clause-stretched : goal.returns-clause-stretched

@@ -1,4 +1,4 @@
-use Rattle.std.proofs.Common.{◌≡◌, ◌+◌, true, false, List, [], ◌∷◌, ◌++◌, length, length-append, length-set, slice_set, nat_lt, if◌then◌else◌, refl, sym, ◌∙◌, ap, subst, arith}
+use Rattle.std.proofs.Common.{◌≡◌, ◌+◌, true, false, List, [], ◌∷◌, ◌++◌, length, length-append, length-set, slice_set, count_by, nat_lt, if◌then◌else◌, refl, sym, ◌∙◌, ap, subst, arith}
 use Rattle.grape_event.specs.declared.event.Event.{Event}
 use Rattle.grape_event.specs.declared.event.Event.TheVariants.{Take}
 use Rattle.grape_event.specs.JournalList.{JournalList}
@@ -10,12 +10,14 @@ use Rattle.hub_engine.specs.HubValues.{HubValues}
 use Rattle.stop_probe.specs.ProbeValues.{ProbeValues}
 use Rattle.stop_probe.specs.Journals.{after_event}
 use Rattle.hub_engine.specs.States.{machine, state_of, events_owed, workers_of, IsHub}
-use Rattle.hub_engine.specs.Desks.{Tables, TablesFit}
+use Rattle.hub_engine.specs.Desks.{Tables, TablesFit, is_busy_at, is_out}
 use Rattle.hub_engine.specs.Calls.{Appended, TakesWorker}
 use Rattle.hub_engine.proofs.Results.{at_ok, at_err}
 use Rattle.hub_engine.proofs.Hubs.{few_workers}
 use Rattle.hub_engine.proofs.Takings.{found_at, worker_in_range, clock_of}
 use Rattle.hub_engine.proofs.Works.{hand_fits, taken_hub, taken_tables, taken_work, taken_seat, few_takes}
+use Rattle.hub_engine.proofs.Taken.{taken_in}
+use Rattle.hub_engine.proofs.Totals.{least_set, taker_is_busy, one_more}
 use Rattle.hub_engine.proofs.engine.Engine.take.Goals as goal
 
 -- src/hub.rt:125:13
@@ -30,6 +32,8 @@ invariant_of-self g c =
       subst (λ (j : JournalList). TablesFit (machine (h j)) (state_of (h j)) (g.P.Pie.counters_for c.self.inside.job) t) (sym e) k.2,
       k.3,
       k.4,
+      k.5,
+      k.6,
     )
 
 -- src/hub.rt:128:36
@@ -106,6 +110,11 @@ invariant_of-self-2 g c =
           (subst (λ (x : Desk). TablesFit (machine new) (state_of new) old.counters (record { routes = t.routes; desks = slice_set t.desks c.args.worker x; probe = after_event (Take c.args.worker c.args.lane) t.probe; cut = t.cut; counts = record { epoch = t.counts.epoch; takes = t.counts.takes + 1; sealed = t.counts.sealed }; turn = c.following-self-inside.result })) (sym seats) tables),
       c.self.invariant.3,
       (let m = length-set c.self.inside.desks.items c.args.worker c.take-fresh.new.self in let q = c.self.invariant.4 in omega (arith, m, q)),
+      least_set t.desks c.args.worker c.index_mut.result.now c.take-fresh.new.self c.self.inside.least here
+          (ap is_busy_at seats ∙ sym (taker_is_busy old t c.args.worker c.args.lane c.index_mut.result.now c.self.invariant.1 c.self.invariant.2 here a)) (ap (λ (x : Desk). x.round) seats) c.self.invariant.5,
+      ap (λ n. n + 1) c.self.invariant.6
+          ∙ sym (ap (λ (x : Desk). count_by is_out (slice_set t.desks c.args.worker x)) seats
+          ∙ one_more old new t (taken_in c.args.worker c.args.lane c.len-place.result c.index_mut.result.now c.following-self-inside.result t) c.args.worker c.args.lane c.index_mut.result.now c.self.invariant.1 c.self.invariant.2 here idle more tables),
     )
 
 -- src/hub.rt:116:5
