@@ -7,5 +7,6 @@ pub mod Pieces
 pub mod Prefix
 pub mod Put
 pub mod Read
+pub mod Staged
 pub mod TwoSlots
 pub mod Wrong

@@ -121,10 +121,10 @@ module _ (shape : Starts) (digest : List ℕ) (k n : ℕ) (f : List ℕ) (low : 
     pub closing_leaves : (c : List ℕ) → ClosesGate (slot_place shape k) f c → KeepsOrTakes shape digest snapshot f c
     closing_leaves c closes = record { state = inl (closing c closes).0; size = omega (arith, closes.1.no_longer, place_within) }
 
-    pub body_leaves : (c : List ℕ) → Torn (slot_place shape k + 1) (length body) (closed (slot_place shape k) f) c → KeepsOrTakes shape digest snapshot f c
+    pub body_leaves : (c : List ℕ) → Torn (slot_place shape k + 1) (body_length shape) (closed (slot_place shape k) f) c → KeepsOrTakes shape digest snapshot f c
     body_leaves c torn = record {
-      state = inl (behind_gate (length body) (closed (slot_place shape k) f) c is_shut long torn).0;
-      size = omega (arith, torn.no_longer, place_within, long, is_shut.0);
+      state = inl (behind_gate (body_length shape) (closed (slot_place shape k) f) c is_shut refl torn).0;
+      size = omega (arith, torn.no_longer, place_within, is_shut.0);
     }
 
     abbrev pub staged : List ℕ
@@ -144,7 +144,7 @@ module _ (shape : Starts) (digest : List ℕ) (k n : ℕ) (f : List ℕ) (low : 
 -- what the steps of a put leave, and what it ends with
 pub record PutSteps (shape : Starts) (digest : List ℕ) (snapshot : SnapshotParts) (f : List ℕ) (at : ℕ) (bytes : List ℕ) : Type 0 where
   pub closing : (c : List ℕ) → ClosesGate at f c → KeepsOrTakes shape digest snapshot f c
-  pub behind : (c : List ℕ) → Torn (at + 1) (length bytes) (closed at f) c → KeepsOrTakes shape digest snapshot f c
+  pub behind : (c : List ℕ) → Torn (at + 1) (body_length shape) (closed at f) c → KeepsOrTakes shape digest snapshot f c
   pub opening : (c : List ℕ) → Torn at 1 (written (at + 1) bytes (closed at f)) c → KeepsOrTakes shape digest snapshot f c
   pub done : Takes shape digest snapshot (written at (OPEN ∷ []) (written (at + 1) bytes (closed at f)))
 

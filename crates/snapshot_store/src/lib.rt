@@ -13,6 +13,7 @@
 //! lost, and a put that fails after it may lose what was kept before.
 #![tactic(auto)]
 
+mod body;
 mod create;
 mod fault;
 mod header;

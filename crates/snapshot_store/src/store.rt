@@ -1,43 +1,44 @@
 // A snapshot goes to the slot of its epoch's parity, whose gate stands closed on the disk before its body is written, and is
 // opened by a write of its own once the body is on the disk.
-ghost use Rattle.std.specs.Prelude.{◌≡◌, ◌⊎◌, ◌+◌, ◌%◌, ◌<◌, ◌≤◌, ℕ, List, length, IsErrOf, IsTrue, IfOk, IfErr, OnOk, OnErr, Ok, Some};
+ghost use Rattle.std.specs.Prelude.{◌≡◌, ◌⊎◌, ◌+◌, ◌%◌, ◌<◌, ◌≤◌, ℕ, List, length, IsErrOf, IsTrue, IfOk, IfErr, OnOk, OnErr, Some};
 ghost use Rattle.grape_port.specs.Ports.{Rose};
 ghost use Rattle.grape_disk.specs.Images.{AtRest, Leaves};
 ghost use Rattle.token_cut.specs.Form.{IsInSlotForm};
 ghost use Rattle.token_cut.specs.Shapes.{IsShape};
-ghost use Rattle.snapshot_file.specs.Bodies.{body_bytes};
-ghost use Rattle.snapshot_file.specs.Lengths.{body_length, file_length};
-ghost use Rattle.snapshot_file.specs.Reading.{decoded};
+ghost use Rattle.snapshot_file.specs.Lengths.{file_length};
 ghost use Rattle.snapshot_store.specs.Lengths.{StaysWithin};
 ghost use Rattle.snapshot_store.specs.State.{file_state, kept_file, StaysNothing, IsKept, KeepsOrTakes, Takes};
 ghost use Rattle.snapshot_store.specs.State.FileState.{nothing};
 ghost use Rattle.snapshot_store.specs.declared.fault.StoreFault.TheVariants.{Disk as DiskFault, NoMemory as NoMemoryFault};
 
+use crate::body::{PIECE, write_body, zeros};
 use crate::create::{close_file, front_of, write_blank};
 use crate::fault::StoreFault;
 use crate::steps::{OPEN, close_gate, write_synced};
 use grape_disk::Disk;
-use grape_port::NoMemory;
-use snapshot_file::{body_len, encode, slot_len};
+use snapshot_file::slot_len;
 use std::alloc::Global;
 use std::marker::Model;
 use token_cut::{Shape, Snapshot};
 
 /// A file that snapshots are kept in. Contracts see the digest that it was made with, and the last
-/// kept epoch.
+/// kept epoch. A store keeps a piece of 65,536 bytes, through which bodies pass.
 #[derive(Drop)]
 pub struct Store {
-    pub(crate) alloc: Global,
     pub(crate) digest: [u8; 32],
     pub(crate) last: u64,
+    pub(crate) piece: Vec<u8>,
 }
 
 impl Model for Store {
+    ghost use Rattle.std.specs.Prelude.{◌<◌, length};
     ghost use Rattle.snapshot_store.specs.Stores.{StoreValue};
 
     ghost Value = { StoreValue };
 
     ghost view = { λ s. record { digest = s.digest; last = s.last } };
+
+    ghost invariant = { λ s. 0 < length s.piece.items };
 }
 
 impl Store {
@@ -88,22 +89,23 @@ impl Store {
     {
         let size = slot_len(shape);
         let front = front_of(alloc, size, digest)?;
+        let piece = zeros(alloc, PIECE)?;
         close_file(disk)?;
         write_blank(disk, &front, 64 + size, 63 + 2 * size)?;
         write_synced(disk, 0, &[OPEN])?;
         Ok(Store {
-            alloc,
             digest: *digest,
             last: 0,
+            piece,
         })
     }
 
-    /// Keeps a snapshot.
+    /// Keeps a snapshot. It takes no memory.
     ///
     /// On an honest disk with nothing pending, to which nobody else writes, a crash at any moment of
     /// the call leaves a file that opens as before or as the snapshot, and at `Ok` one that opens as
-    /// the snapshot. After `StoreFault::Disk` the file is one of those: open it again. After
-    /// `StoreFault::NoMemory` the disk is untouched.
+    /// the snapshot. `StoreFault::Disk` is the only fault, and after it the file is one of those: open
+    /// it again.
     pub fn put<D: Disk>(
         &mut self,
         disk: &mut D,
@@ -135,8 +137,7 @@ impl Store {
         // It doesn't give up by itself.
         ensures disk_fault { IsErrOf result DiskFault → Rose (D.faults disk.old) (D.faults disk.new) }
         ensures no_fault { OnOk result (D.faults disk.new ≡ D.faults disk.old) }
-        ensures no_memory { IsErrOf result NoMemoryFault → disk.new ≡ disk.old }
-        ensures no_other { IfErr result (λ e. (e ≡ DiskFault) ⊎ (e ≡ NoMemoryFault)) }
+        ensures no_other { IfErr result (λ e. e ≡ DiskFault) }
 
         // Moments don't fall, and an Ok call has moved on.
         ensures later { D.moment disk.old ≤ D.moment disk.new }
@@ -144,24 +145,11 @@ impl Store {
 
         ensures honest { D.honest disk.new ≡ D.honest disk.old }
     {
-        let body = body_of(self.alloc, shape, snapshot)?;
         let gate = 64 + snapshot.epoch % 2 * slot_len(shape);
         close_gate(disk, gate)?;
-        write_synced(disk, gate + 1, &body)?;
+        write_body(disk, gate + 1, shape, snapshot, &mut self.piece)?;
         write_synced(disk, gate, &[OPEN])?;
         self.last = snapshot.epoch;
         Ok(())
     }
-}
-
-fn body_of(alloc: Global, shape: &Shape, snapshot: &Snapshot) -> Result<Vec<u8>, NoMemory>
-    requires shape { IsShape shape.now }
-    requires form { (slot : ℕ) × IsInSlotForm shape.now slot snapshot.now }
-    ensures bytes { IfOk result (λ body. body.items ≡ body_bytes snapshot.now) }
-    ensures length { IfOk result (λ body. length body.items ≡ body_length shape.now) }
-    ensures reads_back { IfOk result (λ _. (slot at : ℕ) → IsInSlotForm shape.now slot snapshot.now → decoded shape.now slot at (body_bytes snapshot.now) ≡ Ok snapshot.now) }
-{
-    let mut body = Vec::with_capacity(alloc, body_len(shape) as usize)?;
-    encode(snapshot, &mut body);
-    Ok(body)
 }
