@@ -1,5 +1,5 @@
 // A body goes to the disk through a piece of memory that a store keeps.
-ghost use Rattle.std.specs.Prelude.{◌≡◌, ◌+◌, ◌^◌, ◌<◌, ◌≤◌, ℕ, List, length, Some, IsTrue, IfOk, OnOk, OnErr};
+ghost use Rattle.std.specs.Prelude.{◌≡◌, ◌+◌, ◌*◌, ◌^◌, ◌<◌, ◌≤◌, ℕ, List, length, Some, IsTrue, IfOk, OnOk, OnErr};
 ghost use Rattle.grape_port.specs.Ports.{Rose};
 ghost use Rattle.grape_disk.specs.Images.{AtRest, Leaves, Torn, written};
 ghost use Rattle.token_cut.specs.Form.{IsInSlotForm};
@@ -14,13 +14,23 @@ use snapshot_file::{body_len, encode_piece};
 use std::alloc::Global;
 use token_cut::{Shape, Snapshot};
 
-/// The bytes of a body that a store holds at a time.
-pub(crate) const PIECE: usize = 65_536;
-
-pub(crate) fn zeros(alloc: Global, size: usize) -> Result<Vec<u8>, NoMemory>
-    ensures { IfOk result (λ bytes. length bytes.items ≡ size) }
+/// The piece of 65,536 bytes that a store keeps.
+pub(crate) fn new_piece(alloc: Global) -> Result<Vec<u8>, NoMemory>
+    ensures { IfOk result (λ piece. 0 < length piece.items) }
 {
-    let bytes = vec![in alloc; 0; size]?;
+    let block = [0; 1024];
+    repeated(alloc, &block, 64)
+}
+
+// A block is copied at once: byte by byte a piece would cost more than all else that an open does.
+fn repeated(alloc: Global, block: &[u8], times: usize) -> Result<Vec<u8>, NoMemory>
+    requires { times * length block.now ≤ 2 ^ 32 }
+    ensures { IfOk result (λ bytes. length bytes.items ≡ times * length block.now) }
+{
+    let mut bytes = Vec::with_capacity(alloc, times * block.len())?;
+    for _turn in 0..times {
+        bytes.extend_from_slice(block)?;
+    }
     Ok(bytes)
 }
 

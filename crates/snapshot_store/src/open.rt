@@ -5,13 +5,14 @@ ghost use Rattle.token_cut.specs.Shapes.{IsShape};
 ghost use Rattle.snapshot_store.specs.Opening.{OpensAs, NamesBoth, IsFormed};
 ghost use Rattle.snapshot_store.specs.declared.fault.StoreFault.TheVariants.{Disk as DiskFault};
 
-use crate::body::{PIECE, zeros};
+use crate::body::new_piece;
 use crate::fault::StoreFault;
 use crate::header::check_header;
 use crate::opened::Opened;
 use crate::slots::read_slots;
 use crate::store::Store;
 use grape_disk::Disk;
+use grape_port::NoMemory;
 use snapshot_file::file_len;
 use std::alloc::Global;
 use token_cut::Shape;
@@ -56,6 +57,13 @@ impl Store {
     }
 }
 
+fn zeros(alloc: Global, size: usize) -> Result<Vec<u8>, NoMemory>
+    ensures { IfOk result (λ bytes. length bytes.items ≡ size) }
+{
+    let bytes = vec![in alloc; 0; size]?;
+    Ok(bytes)
+}
+
 fn opened_from(
     alloc: Global,
     bytes: &[u8],
@@ -79,7 +87,7 @@ fn opened_from(
     let store = Store {
         digest: *digest,
         last,
-        piece: zeros(alloc, PIECE)?,
+        piece: new_piece(alloc)?,
     };
     Ok(Opened::Last(store, snapshot))
 }

@@ -11,7 +11,7 @@ ghost use Rattle.snapshot_store.specs.State.{file_state, kept_file, StaysNothing
 ghost use Rattle.snapshot_store.specs.State.FileState.{nothing};
 ghost use Rattle.snapshot_store.specs.declared.fault.StoreFault.TheVariants.{Disk as DiskFault, NoMemory as NoMemoryFault};
 
-use crate::body::{PIECE, write_body, zeros};
+use crate::body::{new_piece, write_body};
 use crate::create::{close_file, front_of, write_blank};
 use crate::fault::StoreFault;
 use crate::steps::{OPEN, close_gate, write_synced};
@@ -89,7 +89,7 @@ impl Store {
     {
         let size = slot_len(shape);
         let front = front_of(alloc, size, digest)?;
-        let piece = zeros(alloc, PIECE)?;
+        let piece = new_piece(alloc)?;
         close_file(disk)?;
         write_blank(disk, &front, 64 + size, 63 + 2 * size)?;
         write_synced(disk, 0, &[OPEN])?;
