@@ -4,8 +4,9 @@ pub mod Cuts
 pub mod Growing
 pub mod Lengths
 pub mod Rising
-pub mod SortedKeys
 pub mod Searches
 pub mod Flags
 pub mod FlagWords
+pub mod TableSteps
+pub mod Stretches
 pub mod LabelLemmas

@@ -1,3 +1,4 @@
 pub mod Lines
 pub mod NumberSets
+pub mod WordTables
 pub mod Labels

@@ -14,17 +14,37 @@ fn number_sets(rt: HostRuntime) -> Result<(), Fail> {
         (0, true),
         (16_777_217, true),
         (16_777_216, false),
+        (16_777_728, true),
+        (17_039_360, true),
+        (16_777_728, false),
     ] {
         assert_eq!(rt; set.contains(number), !is_new);
         assert_eq!(rt; set.insert(number), Ok(is_new));
         assert!(rt; set.contains(number));
     }
-    for number in [1, 4, 6, 16_777_215, 16_777_218, 4_294_967_294] {
+    for number in [
+        1,
+        4,
+        6,
+        16_777_215,
+        16_777_218,
+        16_777_729,
+        17_039_872,
+        4_294_967_294,
+    ] {
         assert!(rt; !set.contains(number));
     }
-    assert_eq!(rt; set.len(), 5);
+    assert_eq!(rt; set.len(), 7);
     let sorted = set.sorted(rt.alloc())?;
-    let want: [u32; 5] = [0, 5, 16_777_216, 16_777_217, 4_294_967_295];
+    let want: [u32; 7] = [
+        0,
+        5,
+        16_777_216,
+        16_777_217,
+        16_777_728,
+        17_039_360,
+        4_294_967_295,
+    ];
     assert_eq!(rt; sorted.as_slice(), want.as_slice());
     Ok(())
 }
