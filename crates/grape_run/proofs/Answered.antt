@@ -12,23 +12,25 @@ use Rattle.graph_core.proofs.Values.{job-meaning}
 use Rattle.graph_text.specs.Input.{input_of}
 use Rattle.pie_core.specs.Locals.{LocalValues}
 use Rattle.answer_text.specs.AnswerTable.{AnswerTable}
-use Rattle.answer_text.specs.AnswerText.{answer_text, kind_of, IsAnswerText}
 use Rattle.answer_text.specs.Assembled.{IsAssembled}
-use Rattle.grape_run.specs.Answered.{AreGreatest}
-use Rattle.grape_run.specs.Runs.{ReadsInput, IsInputOf}
-use Rattle.grape_run.specs.Commands.{digest_of, IsDigestOf, IsAskedFor}
+use Rattle.grape_run.specs.Answered.{AreGreatest, IsRight}
+use Rattle.grape_run.specs.Runs.{ReadsInput, IsInputOf, digest_of, IsDigestOf}
+use Rattle.grape_run.specs.Commands.{IsAskedFor, mode_by}
+use Rattle.grape_run.specs.declared.beginning.Beginning.{Beginning}
+use Rattle.grape_run.specs.declared.beginning.Beginning.TheVariants.{Fresh, Resumed}
 use Rattle.grape_run.specs.declared.input.JobText.{JobText}
 
-pub assembled_is_answer : (job : Job) (locals : List LocalValues) (table : AnswerTable) → IsJob job → AreGreatest job locals → IsAssembled job locals table → IsAnswerText job (answer_text table.kind table.rows)
-assembled_is_answer job locals table h greatest made =
+pub assembled_is_right : (job : Job) (locals : List LocalValues) (table : AnswerTable) → IsJob job → AreGreatest job locals → IsAssembled job locals table → IsRight job table
+assembled_is_right job locals table h greatest made =
     let there = greatest_is_there (equations_of job) (lawful job.graph job.query h.graph) in
     let means = (job-meaning job h there.0).0 there.1 in
     record {
+      kind = made.kind;
       values = made.values;
       right = λ v below.
           let owned = (fragments_cut job h).owned v below in
           subst (λ x. IsValue job v x) (sym (made.owners owned.0 owned.1 v owned.2 ∙ greatest there.0 there.1 owned.0 owned.1 v owned.2)) (means v below);
-      spelled = ap (λ k. answer_text k table.rows) made.kind ∙ ap (λ r. answer_text (kind_of job.query) r) made.rows;
+      rows = made.rows;
     }
 
 -- all of the text was read
@@ -39,10 +41,11 @@ is_input : (told after : Option (List ℕ)) (text : JobText) → ReadsInput told
 is_input None after text h = tt
 is_input (Some told) after text h = ap input_of (whole told h.0 h.1 h.2 h.4.0) ∙ h.4.1
 
-is_digest : (told after : Option (List ℕ)) (text : JobText) → ReadsInput told after (Ok text) → IsDigestOf told (digest_of text.bytes.items)
+is_digest : (told after : Option (List ℕ)) (text : JobText) → ReadsInput told after (Ok text) → IsDigestOf told text.digest
 is_digest None after text h = tt
-is_digest (Some told) after text h = ap digest_of (h.4.2 ∙ sym (whole told h.0 h.1 h.2 h.4.0))
+is_digest (Some told) after text h = h.4.2 ∙ ap digest_of (sym (whole told h.0 h.1 h.2 h.4.0))
 
--- the job that was read was asked for, and the digest of its bytes
-pub asked_for : (told after : Option (List ℕ)) (text : JobText) → ReadsInput told after (Ok text) → IsJob text.job → IsAskedFor told text.job (digest_of text.bytes.items)
-asked_for told after text read within = record { within = within; is_input = is_input told after text read; is_digest = is_digest told after text read }
+-- the job that was read was asked for, and its digest
+pub asked_for : (b : Beginning) (told after : Option (List ℕ)) (text : JobText) → ReadsInput told after (Ok text) → IsJob text.job → IsAskedFor (mode_by b) told text.job text.digest
+asked_for Fresh told after text read within = record { within = within; is_job = is_input told after text read; is_digest = is_digest told after text read }
+asked_for Resumed told after text read within = record { within = within; is_job = is_input told after text read; is_digest = is_digest told after text read }

@@ -22,8 +22,8 @@ use Rattle.coordinator.specs.Shapes.{shape_of, EntriesMayBegin}
 use Rattle.coordinator.proofs.Beginnings.{begun_fresh}
 use Rattle.grape_run.specs.Commands.{StartsBy, RefusesFor}
 use Rattle.grape_run.specs.Entering.{IsUnanswered, entry_status, store_status, HasEntered}
-use Rattle.grape_run.specs.declared.words.Mode.{Mode}
-use Rattle.grape_run.specs.declared.words.Mode.TheVariants as mode
+use Rattle.grape_run.specs.declared.beginning.Beginning.{Beginning}
+use Rattle.grape_run.specs.declared.beginning.Beginning.TheVariants.{Fresh, Resumed}
 
 pub zero_or_more : (n : ℕ) → (n ≡ 0) ⊎ (1 ≤ n)
 zero_or_more zero = inl refl
@@ -40,7 +40,7 @@ fresh_form job start is_job fresh = subst (IsInForm (system_of job)) (sym (begun
 -- the status of a fresh run that can't begin
 pub fresh_refuses : (job : Job) (digest : List ℕ) (content : Option (List ℕ)) (fault : EntryFault) →
     ((size : ℕ) → fault ≡ entry.StateThere size → (1 ≤ job.settings.snapshot) × (0 < size) × ((file : List ℕ) → content ≡ Some file → size ≡ length file)) →
-    ((e : StoreFault) → fault ≡ entry.Store e → (e ≡ store.Disk) ⊎ (e ≡ store.NoMemory)) → IsUnanswered (entry_status fault) × RefusesFor mode.Run job digest content (entry_status fault)
+    ((e : StoreFault) → fault ≡ entry.Store e → (e ≡ store.Disk) ⊎ (e ≡ store.NoMemory)) → IsUnanswered (entry_status fault) × RefusesFor Fresh job digest content (entry_status fault)
 fresh_refuses job digest content (entry.StateThere size) there no_other = let t = there size refl in (tt, (refl, t.0, t.1, t.2))
 fresh_refuses job digest content (entry.Store store.Disk) there no_other = (tt, tt)
 fresh_refuses job digest content (entry.Store store.NoMemory) there no_other = (tt, tt)
@@ -50,14 +50,14 @@ fresh_refuses job digest content (entry.Store (store.Damaged place)) there no_ot
 -- ---- from the state file
 
 starts_resumed : (job : Job) (digest : List ℕ) (content : Option (List ℕ)) (start : SnapshotParts) →
-    ((file : List ℕ) → content ≡ Some file → StartsFrom (shape_of job) digest file start) → (bytes : List ℕ) → StartsFrom (shape_of job) digest bytes start → StartsBy mode.Resume job digest content start
+    ((file : List ℕ) → content ≡ Some file → StartsFrom (shape_of job) digest file start) → (bytes : List ℕ) → StartsFrom (shape_of job) digest bytes start → StartsBy Resumed job digest content start
 starts_resumed job digest None start told bytes read = (bytes, read)
 starts_resumed job digest (Some file) start told bytes read = told file refl
 
 -- the status of a run that can't be resumed
 pub resumed_refuses : (job : Job) (digest : List ℕ) (content : Option (List ℕ)) (fault : StoreFault) →
     ((file : List ℕ) → content ≡ Some file → RecoversFrom (shape_of job) digest file (Err fault)) →
-    ((kept here : List ℕ) → fault ≡ store.Other kept here → (here ≡ digest) × (kept ≢ digest)) → IsUnanswered (store_status fault) × RefusesFor mode.Resume job digest content (store_status fault)
+    ((kept here : List ℕ) → fault ≡ store.Other kept here → (here ≡ digest) × (kept ≢ digest)) → IsUnanswered (store_status fault) × RefusesFor Resumed job digest content (store_status fault)
 resumed_refuses job digest content store.Disk start names = (tt, tt)
 resumed_refuses job digest content store.NoMemory start names = (tt, tt)
 resumed_refuses job digest content (store.Other kept here) start names =
@@ -87,7 +87,7 @@ module _ {D : Type 0} (content : D → Option (List ℕ)) (images : D → ℕ �
   pub fresh_enters : (job : Job) (shape : Starts) (dig digest : List ℕ) (start : SnapshotParts) (s : Option StoreValue) (old new : D) → IsJob job → shape ≡ shape_of job → (1 ≤ job.settings.snapshot → dig ≡ digest) →
       start ≡ shapes.fresh_snapshot shape → (1 ≤ job.settings.snapshot → HasStore dig 0 s) → (1 ≤ job.settings.snapshot → (file : List ℕ) → content old ≡ Some file → file ≡ []) →
       (1 ≤ job.settings.snapshot → IsTrue (honest old) → (file : List ℕ) → AtRest content images moment old file → MayKeep content images moment shape dig [] [] file 0 old new) →
-      HasEntered content images moment honest mode.Run job digest start s old new
+      HasEntered content images moment honest Fresh job digest start s old new
   fresh_enters job shape dig digest start s old new is_job same is fresh has empty ready =
       let begun = fresh ∙ ap (λ (x : Starts). shapes.fresh_snapshot x) same in
       let zero_epoch = sym (ap (λ (x : SnapshotParts). x.epoch) begun) in
@@ -103,7 +103,7 @@ module _ {D : Type 0} (content : D → Option (List ℕ)) (images : D → ℕ �
       ((file : List ℕ) → content old ≡ Some file → StartsFrom shape dig file start) → StartsFrom shape dig bytes start → (start ≡ shapes.fresh_snapshot shape) ⊎ IsInSlotForm shape (start.epoch % 2) start →
       (1 ≤ job.settings.snapshot → HasStore dig start.epoch s) →
       (1 ≤ job.settings.snapshot → IsTrue (honest old) → (file : List ℕ) → AtRest content images moment old file → MayKeep content images moment shape dig [] [] file start.epoch old new) →
-      HasEntered content images moment honest mode.Resume job digest start s old new
+      HasEntered content images moment honest Resumed job digest start s old new
   resumed_enters may job shape dig digest bytes start s old new is_job same is told read form has ready =
       let from : (file : List ℕ) → StartsFrom shape dig file start → StartsFrom (shape_of job) digest file start =
       λ file f. subst (λ (x : Starts). StartsFrom x digest file start) same (subst (λ (x : List ℕ). StartsFrom shape x file start) is f) in
@@ -128,9 +128,9 @@ recovers_for shape shape_new dig digest file r same is h =
 pub named : (kept here dig digest : List ℕ) → dig ≡ digest → here ≡ dig → kept ≢ dig → (here ≡ digest) × (kept ≢ digest)
 named kept here dig digest is same differ = (same ∙ is, λ e. differ (e ∙ sym is))
 
-abbrev is_run : Mode → Type 0
-is_run mode.Run = Unit {0}
-is_run mode.Resume = ⊥
+abbrev is_run : Beginning → Type 0
+is_run Fresh = Unit {0}
+is_run Resumed = ⊥
 
-pub not_run : mode.Resume ≡ mode.Run → ⊥
+pub not_run : Resumed ≡ Fresh → ⊥
 not_run e = subst is_run (sym e) tt

@@ -1,16 +1,15 @@
 -- A run whose ports don't fail answers its input.
-use Rattle.std.proofs.Common.{◌≡◌, ℕ, inl, inr, List, [], ◌++◌, Option, Some, None, Result, Ok, Err, IfSome, MatchOption, refl, sym, ◌∙◌, ap, subst}
+use Rattle.std.proofs.Common.{◌≡◌, ◌⊎◌, ℕ, inl, inr, List, [], ◌++◌, Option, Some, None, Result, Ok, Err, IfSome, refl, sym, ◌∙◌, ap, subst}
 use Rattle.std.proofs.lemmas.List.{append-nil}
 use Rattle.graph_core.specs.declared.job.Job.{Job}
 use Rattle.graph_text.specs.Input.{BadLine, bad, input_of, shown_of}
-use Rattle.grape_run.specs.Commands.{HasRead}
+use Rattle.grape_run.specs.Commands.{IsDemo, HasRead}
 use Rattle.grape_run.specs.declared.input.JobText.{JobText}
 use Rattle.grape_run.specs.declared.status.Status.{Status}
 use Rattle.grape_run.specs.declared.status.Status.TheVariants as status
-use Rattle.grape_run.specs.declared.words.Mode.{Mode}
-use Rattle.grape_run.specs.declared.words.WordFault.{WordFault}
-use Rattle.grape_run.specs.declared.words.WordFault.TheVariants.{Bad}
-use Rattle.grape_run.specs.Runs.{IsJobText, FitsRead, ReadsSource, ReadsInput, RefusesState, EndsAs}
+use Rattle.command_words.specs.declared.words.Mode.{Mode}
+use Rattle.command_words.specs.declared.words.Mode.TheVariants as mode
+use Rattle.grape_run.specs.Runs.{IsJobText, FitsRead, ReadsSource, ReadsAt, ReadsFor, ReadsInput, RefusesState, EndsAs, EndsDemo, EndsAt}
 
 -- the bad line that a front shows is the first one
 abbrev pub ShownIsFirst : Type 0
@@ -69,7 +68,27 @@ pub reads_source : (s : Status) (told after : Option (List ℕ)) (text : JobText
 reads_source s None after text h r = r
 reads_source s (Some told) after text h r = (r.0, r.1, r.2, r.3, fits_read s r.0 r.1 h (text.job, r.4.0, r.4.1))
 
--- what the words asked for, where they were read
-pub asked : (o : Option Mode) (r : Result Mode WordFault) (mode : Mode) → r ≡ Ok mode → MatchOption o (r ≡ Err Bad) (λ m. r ≡ Ok m) → o ≡ Some mode
-asked None r mode is h = absurd (cc (is, h))
-asked (Some m) r mode is h = cc (is, h)
+-- a demo that failed at no port and no disk
+pub demo_ends : (s : Status) → EndsDemo s → (s ≡ status.WriteFault → ⊥) → (s ≡ status.DiskFault → ⊥) → (s ≡ status.Done) ⊎ (s ≡ status.NoMemory)
+demo_ends status.Done h no_write no_disk = inl refl
+demo_ends status.BadWords h no_write no_disk = absurd h
+demo_ends (status.BadInput line why) h no_write no_disk = absurd h
+demo_ends status.ReadFault h no_write no_disk = absurd h
+demo_ends status.WriteFault h no_write no_disk = absurd (no_write refl)
+demo_ends status.DiskFault h no_write no_disk = absurd (no_disk refl)
+demo_ends (status.StateThere size) h no_write no_disk = absurd h
+demo_ends (status.OtherJob kept here) h no_write no_disk = absurd h
+demo_ends (status.BadState place) h no_write no_disk = absurd h
+demo_ends status.NoMemory h no_write no_disk = inr refl
+
+-- a command ends as its words say, where no port and no disk failed
+pub ends_at : (m : Mode) (s : Status) (told after : Option (List ℕ)) → ShownIsFirst → (s ≡ status.BadWords → ⊥) → (s ≡ status.ReadFault → ⊥) → (s ≡ status.WriteFault → ⊥) → (s ≡ status.DiskFault → ⊥) → ReadsAt m s told after →
+    (IsDemo m → EndsDemo s) → EndsAt m s told
+ends_at mode.Run s told after first no_words no_read no_write no_disk h demo = ends s told after first no_words no_read no_write no_disk h
+ends_at mode.Resume s told after first no_words no_read no_write no_disk h demo = ends s told after first no_words no_read no_write no_disk h
+ends_at (mode.Demo vertices number) s told after first no_words no_read no_write no_disk h demo = demo_ends s (demo tt) no_write no_disk
+
+pub ends_by : (o : Option Mode) (s : Status) (told after : Option (List ℕ)) → ShownIsFirst → (s ≡ status.BadWords → o ≡ None) → (s ≡ status.ReadFault → ⊥) → (s ≡ status.WriteFault → ⊥) → (s ≡ status.DiskFault → ⊥) → ReadsFor o s told after →
+    IfSome o (λ m. IsDemo m → EndsDemo s) → IfSome o (λ m. EndsAt m s told)
+ends_by None s told after first no_words no_read no_write no_disk h demo = tt
+ends_by (Some m) s told after first no_words no_read no_write no_disk h demo = ends_at m s told after first (λ e. absurd (cc (no_words e))) no_read no_write no_disk h demo

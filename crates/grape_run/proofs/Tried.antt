@@ -25,8 +25,8 @@ use Rattle.coordinator.specs.declared.story.Story.{Story}
 use Rattle.grape_run.specs.Resuming.{IsFitStart, IsResumable}
 use Rattle.grape_run.specs.Commands.{StartsBy, IsFreeFor, LeavesFor, KeepsState}
 use Rattle.grape_run.specs.Entering.{HasEntered, story_of, HasEnded, IsStoryIf, HasTried}
-use Rattle.grape_run.specs.declared.words.Mode.{Mode}
-use Rattle.grape_run.specs.declared.words.Mode.TheVariants as mode
+use Rattle.grape_run.specs.declared.beginning.Beginning.{Beginning}
+use Rattle.grape_run.specs.declared.beginning.Beginning.TheVariants.{Fresh, Resumed}
 use Rattle.grape_run.proofs.Entered.{zero_or_more}
 use Rattle.grape_run.proofs.Resuming.{files_stay_resumable, fresh_is_fit, resumed_starts_are_fit, has_ended_by, cuts_are_fit}
 
@@ -50,12 +50,12 @@ ran_story job fragments start (ran.Done locals story) h = h.0
 ran_story job fragments start (ran.Stopped cause story) h = h.0
 ran_story job fragments start ran.NoMemory h = tt
 
-story_is : (m : Mode) (job : Job) (digest : List ℕ) (content : Option (List ℕ)) (start : SnapshotParts) (story : Option Story) → StartsBy m job digest content start → IsFreeFor m job content → story_ran job start story →
-    IsStoryIf m job digest content story
-story_is m job digest content start None starts free is = tt
-story_is m job digest content start (Some story) starts free is =
+story_is : (b : Beginning) (job : Job) (digest : List ℕ) (content : Option (List ℕ)) (start : SnapshotParts) (story : Option Story) → StartsBy b job digest content start → IsFreeFor b job content → story_ran job start story →
+    IsStoryIf b job digest content story
+story_is b job digest content start None starts free is = tt
+story_is b job digest content start (Some story) starts free is =
     record {
-      starts = subst (λ (s : SnapshotParts). StartsBy m job digest content s) (sym is.starts) starts;
+      starts = subst (λ (s : SnapshotParts). StartsBy b job digest content s) (sym is.starts) starts;
       free = free;
       is_story = record { starts = refl; legal = subst (λ (s : SnapshotParts). IsLegal (system_of job) s story.journal.events) (sym is.starts) is.legal; noted = is.noted };
     }
@@ -82,10 +82,10 @@ none_some : (file : List ℕ) → None ≡ Some file → ⊥
 none_some file e = subst is_none e tt
 
 -- from a file that may be resumed the command starts fit
-start_fit : (m : Mode) (job : Job) (digest file : List ℕ) (content : Option (List ℕ)) (start : SnapshotParts) → IsJob job → content ≡ Some file → StartsBy m job digest content start → IsResumable job digest file → IsFitStart job start
-start_fit mode.Run job digest file content start is_job told starts was = fresh_is_fit job start is_job starts
-start_fit mode.Resume job digest file None start is_job told starts was = absurd (none_some file told)
-start_fit mode.Resume job digest file (Some f) start is_job told starts was =
+start_fit : (b : Beginning) (job : Job) (digest file : List ℕ) (content : Option (List ℕ)) (start : SnapshotParts) → IsJob job → content ≡ Some file → StartsBy b job digest content start → IsResumable job digest file → IsFitStart job start
+start_fit Fresh job digest file content start is_job told starts was = fresh_is_fit job start is_job starts
+start_fit Resumed job digest file None start is_job told starts was = absurd (none_some file told)
+start_fit Resumed job digest file (Some f) start is_job told starts was =
     resumed_starts_are_fit job digest f start is_job (subst (IsResumable job digest) (sym (same_Some f file told)) was) starts
 
 module _ {D : Type 0} (content : D → Option (List ℕ)) (images : D → ℕ → List ℕ → Type 0) (moment : D → ℕ) (honest : D → Bool) where
@@ -125,38 +125,38 @@ module _ {D : Type 0} (content : D → Option (List ℕ)) (images : D → ℕ �
   tells_for tells job digest file None old new rest s = tells (shape_of job) digest file [] [] old new rest s
   tells_for tells job digest file (Some story) old new rest s = tells (shape_of job) digest file (cuts_of job story) story.kept.items old new rest s
 
-  stays : (m : Mode) (job : Job) (digest file : List ℕ) (story : Option Story) (old new : D) → IsJob job → IsStoryIf m job digest (content old) story → form_if job story → ended_if story →
+  stays : (b : Beginning) (job : Job) (digest file : List ℕ) (story : Option Story) (old new : D) → IsJob job → IsStoryIf b job digest (content old) story → form_if job story → ended_if story →
       AtRest content images moment old file → LeavesFor images moment job digest story file old new → IsResumable job digest file → (c : List ℕ) → images new (moment old) c → IsResumable job digest c
-  stays m job digest file None old new is_job is form ended rest leaves was c image =
+  stays b job digest file None old new is_job is form ended rest leaves was c image =
       files_stay_resumable job digest file c [] (λ s among. absurd (omega (arith, among.1))) was (leaves.at_any_moment c image)
-  stays m job digest file (Some story) old new is_job is form ended rest leaves was c image =
+  stays b job digest file (Some story) old new is_job is form ended rest leaves was c image =
       files_stay_resumable job digest file c (cuts_of job story)
-      (cuts_are_fit cuts_may_be_resumed job story is_job form is.is_story ended (start_fit m job digest file (content old) story.start is_job rest.told is.starts was))
+      (cuts_are_fit cuts_may_be_resumed job story is_job form is.is_story ended (start_fit b job digest file (content old) story.start is_job rest.told is.starts was))
       was (leaves.at_any_moment c image)
 
-  pub keeps_state : ClaimTells content images moment → (m : Mode) (job : Job) (digest : List ℕ) (story : Option Story) (old new : D) → IsJob job → IsStoryIf m job digest (content old) story → form_if job story → ended_if story →
-      (m ≡ mode.Run → job.settings.snapshot ≡ 0 → new ≡ old) → (IsTrue (honest old) → (file : List ℕ) → AtRest content images moment old file → SurvivesFor job digest story file old new) →
-      KeepsState content images moment honest m job digest story old new
-  keeps_state tells m job digest story old new is_job is form ended unused survives =
+  pub keeps_state : ClaimTells content images moment → (b : Beginning) (job : Job) (digest : List ℕ) (story : Option Story) (old new : D) → IsJob job → IsStoryIf b job digest (content old) story → form_if job story → ended_if story →
+      (b ≡ Fresh → job.settings.snapshot ≡ 0 → new ≡ old) → (IsTrue (honest old) → (file : List ℕ) → AtRest content images moment old file → SurvivesFor job digest story file old new) →
+      KeepsState content images moment honest b job digest story old new
+  keeps_state tells b job digest story old new is_job is form ended unused survives =
       record {
         unused = unused;
         leaves = λ h file rest. tells_for tells job digest file story old new rest (survives h file rest);
-        resumable = λ h file rest. stays m job digest file story old new is_job is form ended rest (tells_for tells job digest file story old new rest (survives h file rest));
+        resumable = λ h file rest. stays b job digest file story old new is_job is form ended rest (tells_for tells job digest file story old new rest (survives h file rest));
       }
 
   -- where nobody ran
-  pub refused_state : ClaimTells content images moment → (m : Mode) (job : Job) (digest : List ℕ) (old new : D) → IsJob job → (m ≡ mode.Run → job.settings.snapshot ≡ 0 → new ≡ old) →
-      (IsTrue (honest old) → (file : List ℕ) → AtRest content images moment old file → Survives images moment (shape_of job) digest [] [] file old new) → KeepsState content images moment honest m job digest None old new
-  refused_state tells m job digest old new is_job unused crash = keeps_state tells m job digest None old new is_job tt tt tt unused crash
+  pub refused_state : ClaimTells content images moment → (b : Beginning) (job : Job) (digest : List ℕ) (old new : D) → IsJob job → (b ≡ Fresh → job.settings.snapshot ≡ 0 → new ≡ old) →
+      (IsTrue (honest old) → (file : List ℕ) → AtRest content images moment old file → Survives images moment (shape_of job) digest [] [] file old new) → KeepsState content images moment honest b job digest None old new
+  refused_state tells b job digest old new is_job unused crash = keeps_state tells b job digest None old new is_job tt tt tt unused crash
 
-  pub has_tried : ClaimGrows content images moment → ClaimsJoin content images moment → ClaimTells content images moment → (m : Mode) (job : Job) (digest : List ℕ) (fragments : List FragmentLists) (start : SnapshotParts) (s : Option StoreValue)
-      (r : Ran) (old mid new : D) → IsJob job → HasEntered content images moment honest m job digest start s old mid →
-      (IsTrue (honest old) → (file : List ℕ) → AtRest content images moment old file → Survives images moment (shape_of job) digest [] [] file old mid) → (m ≡ mode.Run → job.settings.snapshot ≡ 0 → mid ≡ old) → honest mid ≡ honest old →
+  pub has_tried : ClaimGrows content images moment → ClaimsJoin content images moment → ClaimTells content images moment → (b : Beginning) (job : Job) (digest : List ℕ) (fragments : List FragmentLists) (start : SnapshotParts) (s : Option StoreValue)
+      (r : Ran) (old mid new : D) → IsJob job → HasEntered content images moment honest b job digest start s old mid →
+      (IsTrue (honest old) → (file : List ℕ) → AtRest content images moment old file → Survives images moment (shape_of job) digest [] [] file old mid) → (b ≡ Fresh → job.settings.snapshot ≡ 0 → mid ≡ old) → honest mid ≡ honest old →
       HasRun job fragments start r → HasUsed moment honest job mid new → (job.settings.snapshot ≡ 0 → KeepsNothing r) → (IsTrue (honest mid) → KeepsBy content images moment job s r mid new) →
-      HasTried content images moment honest m job digest fragments (Ok r) old new
-  has_tried grows join tells m job digest fragments start s r old mid new is_job entered crash unused same_honest has_run used unkept keeps =
+      HasTried content images moment honest b job digest fragments (Ok r) old new
+  has_tried grows join tells b job digest fragments start s r old mid new is_job entered crash unused same_honest has_run used unkept keeps =
       let ran_is = ran_story job fragments start r has_run in
-      let is = story_is m job digest (content old) start (story_of r) entered.starts entered.free ran_is in
+      let is = story_is b job digest (content old) start (story_of r) entered.starts entered.free ran_is in
       let ended = has_ended_so job fragments start r has_run in
       let survives : IsTrue (honest old) → (file : List ℕ) → AtRest content images moment old file → SurvivesFor job digest (story_of r) file old new = λ h file rest. elim (zero_or_more job.settings.snapshot) [
         | inl z ↦ unasked_survives grows job digest file r old new (unkept z)
@@ -168,5 +168,5 @@ module _ {D : Type 0} (content : D → Option (List ℕ)) (images : D → ℕ �
       ] in (
         is,
         ended,
-        keeps_state tells m job digest (story_of r) old new is_job is (form_is job start (story_of r) entered.form ran_is) (ended_is job fragments r ended) (λ run z. used.unused z ∙ unused run z) survives,
+        keeps_state tells b job digest (story_of r) old new is_job is (form_is job start (story_of r) entered.form ran_is) (ended_is job fragments r ended) (λ run z. used.unused z ∙ unused run z) survives,
       )

@@ -25,8 +25,8 @@ use Rattle.coordinator.specs.declared.story.Story.{Story}
 use Rattle.grape_run.specs.Commands.{StartsBy, IsFreeFor, RefusesFor, IsStoryFor, KeepsState}
 use Rattle.grape_run.specs.declared.status.Status.{Status}
 use Rattle.grape_run.specs.declared.status.Status.TheVariants as status
-use Rattle.grape_run.specs.declared.words.Mode.{Mode}
-use Rattle.grape_run.specs.declared.words.Mode.TheVariants as mode
+use Rattle.grape_run.specs.declared.beginning.Beginning.{Beginning}
+use Rattle.grape_run.specs.declared.beginning.Beginning.TheVariants.{Fresh}
 
 -- a status of a command that had read a job and wrote nothing of its answer
 abbrev pub IsUnanswered : Status → Type 0
@@ -67,23 +67,23 @@ EntryCounts (Err s) before after = CountsFor s before after
 
 module _ {D : Type 0} (content : D → Option (List ℕ)) (images : D → ℕ → List ℕ → Type 0) (moment : D → ℕ) (honest : D → Bool) where
   -- A run may begin from this start, which is that of the command, and keep its snapshots by this store.
-  pub record HasEntered (m : Mode) (job : Job) (digest : List ℕ) (start : SnapshotParts) (store : Option StoreValue) (old new : D) : Type 0 where
-    pub starts : StartsBy m job digest (content old) start
-    pub free : IsFreeFor m job (content old)
+  pub record HasEntered (b : Beginning) (job : Job) (digest : List ℕ) (start : SnapshotParts) (store : Option StoreValue) (old new : D) : Type 0 where
+    pub starts : StartsBy b job digest (content old) start
+    pub free : IsFreeFor b job (content old)
     pub form : IsInForm (system_of job) start
     pub has_store : 1 ≤ job.settings.snapshot → HasStore digest start.epoch store
     pub ready : 1 ≤ job.settings.snapshot → IsTrue (honest old) → (file : List ℕ) → AtRest content images moment old file → MayKeep content images moment (shape_of job) digest [] [] file start.epoch old new
 
   -- it entered, or the state file was refused
-  abbrev pub EntersOr : Mode → Job → List ℕ → Result Entry Status → D → D → Type 0
-  EntersOr m job digest (Ok made) old new = HasEntered m job digest made.start made.store old new
-  EntersOr m job digest (Err s) old new = IsUnanswered s × RefusesFor m job digest (content old) s
+  abbrev pub EntersOr : Beginning → Job → List ℕ → Result Entry Status → D → D → Type 0
+  EntersOr b job digest (Ok made) old new = HasEntered b job digest made.start made.store old new
+  EntersOr b job digest (Err s) old new = IsUnanswered s × RefusesFor b job digest (content old) s
 
   -- What an entry did: a crash in it leaves what opens as before, and without snapshots the disk isn't used.
-  pub record IsEntryFor (m : Mode) (job : Job) (digest : List ℕ) (result : Result Entry Status) (old new : D) : Type 0 where
-    pub enters : EntersOr m job digest result old new
+  pub record IsEntryFor (b : Beginning) (job : Job) (digest : List ℕ) (result : Result Entry Status) (old new : D) : Type 0 where
+    pub enters : EntersOr b job digest result old new
     pub crash : IsTrue (honest old) → (file : List ℕ) → AtRest content images moment old file → Survives images moment (shape_of job) digest [] [] file old new
-    pub unused : m ≡ mode.Run → job.settings.snapshot ≡ 0 → new ≡ old
+    pub unused : b ≡ Fresh → job.settings.snapshot ≡ 0 → new ≡ old
 
 -- ---- the run
 
@@ -117,13 +117,13 @@ HasEnded job fragments (ran.Stopped cause story) = EndsBy (Stop cause) story.jou
 HasEnded job fragments ran.NoMemory = ⊤
 
 -- the story, where there is one, is of a run of the job from where the command starts it
-abbrev pub IsStoryIf : Mode → Job → List ℕ → Option (List ℕ) → Option Story → Type 0
-IsStoryIf m job digest content None = ⊤
-IsStoryIf m job digest content (Some story) = IsStoryFor m job digest content story
+abbrev pub IsStoryIf : Beginning → Job → List ℕ → Option (List ℕ) → Option Story → Type 0
+IsStoryIf b job digest content None = ⊤
+IsStoryIf b job digest content (Some story) = IsStoryFor b job digest content story
 
 module _ {D : Type 0} (content : D → Option (List ℕ)) (images : D → ℕ → List ℕ → Type 0) (moment : D → ℕ) (honest : D → Bool) where
   -- The run of a command: it ended, with its story, or could not enter. In any case what a crash leaves is that.
-  abbrev pub HasTried : Mode → Job → List ℕ → List FragmentLists → Result Ran Status → D → D → Type 0
-  HasTried m job digest fragments (Ok r) old new =
-      IsStoryIf m job digest (content old) (story_of r) × HasEnded job fragments r × KeepsState content images moment honest m job digest (story_of r) old new
-  HasTried m job digest fragments (Err s) old new = IsUnanswered s × RefusesFor m job digest (content old) s × KeepsState content images moment honest m job digest None old new
+  abbrev pub HasTried : Beginning → Job → List ℕ → List FragmentLists → Result Ran Status → D → D → Type 0
+  HasTried b job digest fragments (Ok r) old new =
+      IsStoryIf b job digest (content old) (story_of r) × HasEnded job fragments r × KeepsState content images moment honest b job digest (story_of r) old new
+  HasTried b job digest fragments (Err s) old new = IsUnanswered s × RefusesFor b job digest (content old) s × KeepsState content images moment honest b job digest None old new

@@ -1,17 +1,9 @@
--- The line that a run writes where it isn't done, and the words that it takes.
-use Rattle.std.specs.Prelude.{ℕ, ◌+◌, ◌/◌, ◌%◌, List, [], ◌∷◌, ◌++◌, Option, Some, None, codes, decimal, bytes_eq, nat_lt, if◌then◌else◌}
+-- The line that a run writes where it isn't done.
+use Rattle.std.specs.Prelude.{ℕ, ◌+◌, ◌/◌, ◌%◌, List, [], ◌∷◌, ◌++◌, codes, decimal, nat_lt, if◌then◌else◌}
 use Rattle.line_statements.specs.declared.why.Why.{Why}
 use Rattle.line_statements.specs.declared.why.Why.TheVariants as causes
 use Rattle.grape_run.specs.declared.status.Status.{Status}
 use Rattle.grape_run.specs.declared.status.Status.TheVariants as status
-use Rattle.grape_run.specs.declared.words.Mode.{Mode}
-use Rattle.grape_run.specs.declared.words.Mode.TheVariants as mode
-
--- what the words ask for, if they ask for anything
-abbrev pub mode_of : List (List ℕ) → Option Mode
-mode_of [] = None
-mode_of (word ∷ []) = if bytes_eq word (codes "run") then Some mode.Run else if bytes_eq word (codes "resume") then Some mode.Resume else None
-mode_of (word ∷ next ∷ words) = None
 
 -- why a line is bad, as a word
 abbrev pub why_text : Why → List ℕ

@@ -4,15 +4,14 @@ ghost use Rattle.graph_core.specs.Fragments.{fragments_of};
 ghost use Rattle.coordinator.specs.Runs.{IsStoryOf};
 ghost use Rattle.grape_event.specs.declared.event.Event.TheVariants.{End};
 ghost use Rattle.coordinator.specs.Runs.{EndsBy, AreLocalsOf};
-ghost use Rattle.grape_run.specs.Commands.{digest_of};
 ghost use Rattle.grape_run.specs.Entering.{CountsFor, HasEnded, IsLegalRan};
 ghost use Rattle.grape_run.specs.Answered.{IsAnswered, IsOutcomeOf, HasMade, status_in};
 
+use crate::beginning::Beginning;
 use crate::finish::Finish;
 use crate::input::JobText;
 use crate::running::run_from;
 use crate::status::Status;
-use crate::words::Mode;
 use answer_text::{Answer, assemble};
 use coordinator::{Ran, Story, done_is_quiet, done_is_the_answer, shape_of};
 use delay_stretch::Pacer;
@@ -40,20 +39,20 @@ pub(crate) enum Outcome {
 pub(crate) fn run_job<R: Threads + Wait + Sync, D: Disk, G: Gate + Sync>(
     rt: &R,
     alloc: Global,
-    mode: Mode,
+    beginning: Beginning,
     text: JobText,
     disk: &mut D,
     pacers: Vec<Box<dyn Pacer + Send>>,
     gate: &G,
 ) -> Outcome
     requires job { IsJob text.job }
-    ensures made { HasMade D.content D.images D.moment D.honest mode text.job (digest_of text.bytes.items) result disk.old disk.new }
+    ensures made { HasMade D.content D.images D.moment D.honest beginning text.job text.digest result disk.old disk.new }
     ensures counts { CountsFor (status_in result) (D.faults disk.old) (D.faults disk.new) }
     ensures later { D.moment disk.old ≤ D.moment disk.new }
     ensures honest { D.honest disk.new ≡ D.honest disk.old }
 {
     claims_add_up(disk);
-    let JobText { job, bytes } = text;
+    let JobText { job, digest } = text;
     let Ok(fragments) = fragment(alloc, &job) else {
         return Outcome::Ended(Finish::without_story(Status::NoMemory));
     };
@@ -61,7 +60,7 @@ pub(crate) fn run_job<R: Threads + Wait + Sync, D: Disk, G: Gate + Sync>(
         return Outcome::Ended(Finish::without_story(Status::NoMemory));
     };
     match run_from(
-        rt, alloc, mode, &job, &fragments, &shape, bytes, disk, pacers, gate,
+        rt, alloc, beginning, &job, &fragments, &shape, &digest, disk, pacers, gate,
     ) {
         Ok(ran) => outcome_of(alloc, &job, &fragments, ran),
         Err(status) => Outcome::Ended(Finish::without_story(status)),

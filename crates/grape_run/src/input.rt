@@ -6,13 +6,14 @@ ghost use Rattle.grape_run.specs.Runs.{ReadsInput};
 use grape_port::{Failed, NoMemory, Source};
 use graph_core::Job;
 use graph_text::{LineReader, TextFault};
+use sha2::{Digest, Sha256};
 use std::alloc::Global;
 
-/// A job, and the bytes of the input that it was read from.
+/// A job, and the digest of the input that it was read from: the SHA-256 of its bytes (FIPS 180-4).
 #[derive(Drop)]
 pub struct JobText {
     pub job: Job,
-    pub bytes: Vec<u8>,
+    pub digest: [u8; 32],
 }
 
 /// Why no job was read.
@@ -30,7 +31,8 @@ const PIECE: usize = 65_536;
 /// The most bytes that an input has.
 const MAX_BYTES: u64 = 268_435_456;
 
-/// Reads the job that a source has, in pieces of 65,536 bytes, to the end or to the first fault, and keeps the bytes.
+/// Reads the job that a source has, in pieces of 65,536 bytes, to the end or to the first fault. Each piece is handed to
+/// the digest and to the reader, and no byte of the input is kept.
 ///
 /// A bad line is the first one, as soon as what was read shows it, or at the end of the input. `Failed` comes only
 /// where a read failed before a bad line was shown.
@@ -46,7 +48,7 @@ pub fn read_job<S: Source>(alloc: Global, input: &mut S) -> Result<JobText, Inpu
     let Ok(mut buffer) = zeros(alloc, PIECE) else {
         return Err(InputFault::Text(TextFault::NoMemory));
     };
-    let mut bytes = Vec::new(alloc);
+    let mut hasher = Sha256::new();
     let piece = buffer.as_mut_slice();
     for turn in 0..=MAX_BYTES {
         let Ok(count) = input.read(piece) else {
@@ -57,14 +59,13 @@ pub fn read_job<S: Source>(alloc: Global, input: &mut S) -> Result<JobText, Inpu
                 Ok(job) => job,
                 Err(fault) => return Err(InputFault::Text(fault)),
             };
-            return Ok(JobText { job, bytes });
+            let digest = hasher.finalize();
+            return Ok(JobText { job, digest });
         }
+        hasher.update(&piece[..count]);
         if let Err(fault) = reader.feed(&piece[..count]) {
             return Err(InputFault::Text(fault));
         }
-        let Ok(()) = bytes.extend_from_slice(&piece[..count]) else {
-            return Err(InputFault::Text(TextFault::NoMemory));
-        };
     }
     unreachable!()
 }

@@ -11,6 +11,8 @@
 #![tactic(auto)]
 
 mod answers;
+mod beginning;
+mod demo;
 mod entering;
 mod finish;
 mod input;
@@ -23,11 +25,11 @@ mod running;
 mod status;
 #[cfg(test)]
 mod tests;
-mod words;
 
+pub use beginning::Beginning;
+pub use command_words::{Mode, WordFault, Words, read_words};
 pub use finish::Finish;
 pub use input::{InputFault, JobText, read_job};
 pub use laws::files_stay_resumable;
 pub use run::grape;
 pub use status::{Status, code};
-pub use words::{Mode, WordFault, Words, read_words};

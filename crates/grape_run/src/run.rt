@@ -1,19 +1,21 @@
-ghost use Rattle.std.specs.Prelude.{◌≡◌, ◌≤◌, ◌↔◌, [], Some, None, IfSome, vec_len};
+ghost use Rattle.std.specs.Prelude.{◌≡◌, ◌≢◌, ◌≤◌, ◌↔◌, [], Some, None, IfSome, vec_len};
 ghost use Rattle.grape_port.specs.Ports.{Rose, IsAllFlushed};
 ghost use Rattle.graph_core.specs.Graphs.{IsJob};
-ghost use Rattle.graph_text.specs.Input.{input_of};
-ghost use Rattle.grape_run.specs.Notes.{mode_of, note_text};
-ghost use Rattle.grape_run.specs.Runs.{ReadsSource, RefusesState, HasAnswered, IsSilent, AppendsUnlessFault, EndsAs};
-ghost use Rattle.grape_run.specs.Commands.{digest_of, HasRead, HasDone, Does};
+ghost use Rattle.command_words.specs.Grammar.{mode_of};
+ghost use Rattle.grape_run.specs.Notes.{note_text};
+ghost use Rattle.grape_run.specs.Runs.{ReadsSource, ReadsFor, RefusesState, HasAnswered, IsSilent, AppendsUnlessFault, EndsDemo, EndsAt};
+ghost use Rattle.grape_run.specs.Commands.{IsDemo, mode_by, HasRead, HasDone, Does};
 ghost use Rattle.grape_run.specs.Entering.{CountsFor};
 
 use crate::answers::{Outcome, run_job};
+use crate::beginning::Beginning;
+use crate::demo::run_demo;
 use crate::finish::Finish;
 use crate::input::{JobText, read_job};
 use crate::notes::write_note;
 use crate::status::Status;
-use crate::words::{Mode, WordFault, Words, read_words};
 use answer_text::write_answer;
+use command_words::{Mode, WordFault, Words, read_words};
 use delay_stretch::Pacer;
 use grape_disk::Disk;
 use grape_port::{Sink, Source};
@@ -26,6 +28,9 @@ use std::thread::Threads;
 /// Runs a command: reads its words, then the input, begins or opens the state file, evaluates the job, and writes the
 /// answer to `out`. Every status but `Done` has a line, which is written to `note`; a failing `note` changes no answer.
 /// `NoMemory` may come in place of any status but `BadWords`, before anything is written.
+///
+/// `demo` reads nothing and doesn't use the disk: it makes its graph from a number, evaluates the distances from vertex
+/// 0, and writes the line of their totals.
 ///
 /// The disk is the state file. `run` uses it only where the input asks for snapshots, and then the file must be empty;
 /// `resume` goes on from the last snapshot that stands there, or starts afresh where there is none. `StateThere`,
@@ -52,12 +57,14 @@ pub fn grape<R: Threads + Wait + Sync, S: Source, O: Sink, N: Sink, D: Disk, G: 
     ensures bad_words { (result.status ≡ Status.BadWords) ↔ (mode_of words.now ≡ None) }
     ensures unread { result.status ≡ Status.BadWords → (S.left input.new ≡ S.left input.old) × (S.faults input.new ≡ S.faults input.old) }
 
-    // Where the source tells its text, the status fits what was read of it; where there is a story, it was read to its end.
-    ensures read { ReadsSource result.status (S.left input.old) (S.left input.new) }
+    // Where the source tells its text, the status fits what was read of it; where there is a story, it was read to its
+    // end. A demo reads nothing, and makes no call of the disk.
+    ensures read { ReadsFor (mode_of words.now) result.status (S.left input.old) (S.left input.new) }
     ensures read_fault { result.status ≡ Status.ReadFault → Rose (S.faults input.old) (S.faults input.new) }
-    ensures read_to_end { IfSome result.story (λ s. IfSome (S.left input.new) (λ rest. rest ≡ [])) }
+    ensures read_to_end { IfSome (mode_of words.now) (λ m. ¬ IsDemo m → IfSome result.story (λ s. IfSome (S.left input.new) (λ rest. rest ≡ []))) }
+    ensures demo { IfSome (mode_of words.now) (λ m. IsDemo m → (S.left input.new ≡ S.left input.old) × (S.faults input.new ≡ S.faults input.old) × (disk.new ≡ disk.old)) }
 
-    // One job and one digest are those of the source's text, of the story, of what was written, of what is refused of the
+    // One job and one digest are those of the source's text, or at a demo of its graph, of the story, of what was written, of what is refused of the
     // state file, and of what a crash leaves there. After Done the whole answer was written, after WriteFault a front of
     // it. After these two there is the story of its run, which ended by a probe with no worker running and no message
     // waiting. After DiskFault and NoMemory there may be one, which was stopped for that, or after NoMemory ended.
@@ -75,8 +82,8 @@ pub fn grape<R: Threads + Wait + Sync, S: Source, O: Sink, N: Sink, D: Disk, G: 
     ensures note { AppendsUnlessFault (N.written note.old) (note_text result.status) (N.written note.new) (N.faults note.old) (N.faults note.new) }
 
     // With words that ask for something, an input is answered unless the state file is refused, and another text is
-    // refused by its first bad line, unless a port or the disk failed or memory ran out.
-    ensures complete { ¬ (mode_of words.now ≡ None) → ¬ Rose (S.faults input.old) (S.faults input.new) → ¬ Rose (O.faults out.old) (O.faults out.new) → ¬ Rose (D.faults disk.old) (D.faults disk.new) → IfSome (S.left input.old) (λ text. EndsAs result.status (input_of text)) }
+    // refused by its first bad line, unless a port or the disk failed or memory ran out; and so is a demo answered.
+    ensures complete { ¬ Rose (S.faults input.old) (S.faults input.new) → ¬ Rose (O.faults out.old) (O.faults out.new) → ¬ Rose (D.faults disk.old) (D.faults disk.new) → IfSome (mode_of words.now) (λ m. EndsAt m result.status (S.left input.old)) }
 
     ensures later { D.moment disk.old ≤ D.moment disk.new }
     ensures honest { D.honest disk.new ≡ D.honest disk.old }
@@ -103,9 +110,11 @@ fn run<R: Threads + Wait + Sync, S: Source, O: Sink, D: Disk, G: Gate + Sync>(
 ) -> Finish
     ensures bad_words { (result.status ≡ Status.BadWords) ↔ (mode_of words.now ≡ None) }
     ensures unread { result.status ≡ Status.BadWords → (S.left input.new ≡ S.left input.old) × (S.faults input.new ≡ S.faults input.old) }
-    ensures read { ReadsSource result.status (S.left input.old) (S.left input.new) }
+    ensures read { ReadsFor (mode_of words.now) result.status (S.left input.old) (S.left input.new) }
     ensures read_fault { result.status ≡ Status.ReadFault → Rose (S.faults input.old) (S.faults input.new) }
-    ensures read_to_end { IfSome result.story (λ s. IfSome (S.left input.new) (λ rest. rest ≡ [])) }
+    ensures read_to_end { IfSome (mode_of words.now) (λ m. ¬ IsDemo m → IfSome result.story (λ s. IfSome (S.left input.new) (λ rest. rest ≡ []))) }
+    ensures demo { IfSome (mode_of words.now) (λ m. IsDemo m → (S.left input.new ≡ S.left input.old) × (S.faults input.new ≡ S.faults input.old) × (disk.new ≡ disk.old)) }
+    ensures demo_ends { IfSome (mode_of words.now) (λ m. IsDemo m → EndsDemo result.status) }
     ensures does { Does D.content D.images D.moment D.honest (mode_of words.now) result.status result.story (S.left input.old) (O.written out.old) (O.written out.new) disk.old disk.new }
     ensures flushed { result.status ≡ Status.Done → IsAllFlushed (O.written out.new) (O.flushed out.new) }
     ensures write_fault { result.status ≡ Status.WriteFault → Rose (O.faults out.old) (O.faults out.new) }
@@ -121,18 +130,61 @@ fn run<R: Threads + Wait + Sync, S: Source, O: Sink, D: Disk, G: Gate + Sync>(
         Err(WordFault::Bad) => return Finish::without_story(Status::BadWords),
         Err(WordFault::NoMemory) => return Finish::without_story(Status::NoMemory),
     };
+    match mode {
+        Mode::Run => run_input(rt, alloc, Beginning::Fresh, input, out, disk, pacers, gate),
+        Mode::Resume => run_input(
+            rt,
+            alloc,
+            Beginning::Resumed,
+            input,
+            out,
+            disk,
+            pacers,
+            gate,
+        ),
+        Mode::Demo { vertices, number } => {
+            run_demo(rt, alloc, vertices, number, out, disk, pacers, gate)
+        }
+    }
+}
+
+/// Reads the input, runs its job, and writes its answer.
+fn run_input<R: Threads + Wait + Sync, S: Source, O: Sink, D: Disk, G: Gate + Sync>(
+    rt: &R,
+    alloc: Global,
+    beginning: Beginning,
+    input: &mut S,
+    out: &mut O,
+    disk: &mut D,
+    pacers: Vec<Box<dyn Pacer + Send>>,
+    gate: &G,
+) -> Finish
+    ensures words { result.status ≢ Status.BadWords }
+    ensures read { ReadsSource result.status (S.left input.old) (S.left input.new) }
+    ensures read_fault { result.status ≡ Status.ReadFault → Rose (S.faults input.old) (S.faults input.new) }
+    ensures read_to_end { IfSome result.story (λ s. IfSome (S.left input.new) (λ rest. rest ≡ [])) }
+    ensures does { Does D.content D.images D.moment D.honest (Some (mode_by beginning)) result.status result.story (S.left input.old) (O.written out.old) (O.written out.new) disk.old disk.new }
+    ensures flushed { result.status ≡ Status.Done → IsAllFlushed (O.written out.new) (O.flushed out.new) }
+    ensures write_fault { result.status ≡ Status.WriteFault → Rose (O.faults out.old) (O.faults out.new) }
+    ensures silent { IsSilent result.status → (O.written out.new ≡ O.written out.old) × (O.flushed out.new ≡ O.flushed out.old) × (O.faults out.new ≡ O.faults out.old) }
+    ensures counts { CountsFor result.status (D.faults disk.old) (D.faults disk.new) }
+    ensures later { D.moment disk.old ≤ D.moment disk.new }
+    ensures honest { D.honest disk.new ≡ D.honest disk.old }
+    ensures input_faults { S.faults input.old ≤ S.faults input.new }
+    ensures out_faults { O.faults out.old ≤ O.faults out.new }
+{
     let text = match read_job(alloc, input) {
         Ok(text) => text,
         Err(fault) => return Finish::without_story(Status::from(fault)),
     };
-    finish_job(rt, alloc, mode, text, out, disk, pacers, gate)
+    finish_job(rt, alloc, beginning, text, out, disk, pacers, gate)
 }
 
 /// What follows when the job was read: its run, and the writing of its answer.
 fn finish_job<R: Threads + Wait + Sync, O: Sink, D: Disk, G: Gate + Sync>(
     rt: &R,
     alloc: Global,
-    mode: Mode,
+    beginning: Beginning,
     text: JobText,
     out: &mut O,
     disk: &mut D,
@@ -141,7 +193,7 @@ fn finish_job<R: Threads + Wait + Sync, O: Sink, D: Disk, G: Gate + Sync>(
 ) -> Finish
     requires job { IsJob text.job }
     ensures read { HasRead result.status }
-    ensures done { HasDone D.content D.images D.moment D.honest mode text.job (digest_of text.bytes.items) result.status result.story (O.written out.old) (O.written out.new) disk.old disk.new }
+    ensures done { HasDone D.content D.images D.moment D.honest (mode_by beginning) beginning text.job text.digest result.status result.story (O.written out.old) (O.written out.new) disk.old disk.new }
     ensures flushed { result.status ≡ Status.Done → IsAllFlushed (O.written out.new) (O.flushed out.new) }
     ensures write_fault { result.status ≡ Status.WriteFault → Rose (O.faults out.old) (O.faults out.new) }
     ensures silent { IsSilent result.status → (O.written out.new ≡ O.written out.old) × (O.flushed out.new ≡ O.flushed out.old) × (O.faults out.new ≡ O.faults out.old) }
@@ -150,7 +202,7 @@ fn finish_job<R: Threads + Wait + Sync, O: Sink, D: Disk, G: Gate + Sync>(
     ensures honest { D.honest disk.new ≡ D.honest disk.old }
     ensures out_faults { O.faults out.old ≤ O.faults out.new }
 {
-    let (answer, story) = match run_job(rt, alloc, mode, text, disk, pacers, gate) {
+    let (answer, story) = match run_job(rt, alloc, beginning, text, disk, pacers, gate) {
         Outcome::Answered { answer, story } => (answer, story),
         Outcome::Ended(finish) => return finish,
     };

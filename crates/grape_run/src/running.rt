@@ -6,12 +6,11 @@ ghost use Rattle.base_machine.specs.Fitness.{IsInForm};
 ghost use Rattle.token_cut.specs.Shapes.{IsShape};
 ghost use Rattle.coordinator.specs.Shapes.{shape_of};
 ghost use Rattle.coordinator.specs.Runs.{HasRun, KeepsNothing, HasLast, HasUsed, KeepsBy};
-ghost use Rattle.grape_run.specs.Commands.{digest_of};
 ghost use Rattle.grape_run.specs.Entering.{CountsFor, RanCounts, HasTried, status_after};
 
+use crate::beginning::Beginning;
 use crate::entering::enter;
 use crate::status::Status;
-use crate::words::Mode;
 use coordinator::{Entry, Ran, run_alone, run_lanes};
 use delay_stretch::Pacer;
 use grape_disk::Disk;
@@ -27,11 +26,11 @@ use token_cut::Shape;
 pub(crate) fn run_from<R: Threads + Wait + Sync, D: Disk, G: Gate + Sync>(
     rt: &R,
     alloc: Global,
-    mode: Mode,
+    beginning: Beginning,
     job: &Job,
     fragments: &[Fragment],
     shape: &Shape,
-    bytes: Vec<u8>,
+    digest: &[u8; 32],
     disk: &mut D,
     pacers: Vec<Box<dyn Pacer + Send>>,
     gate: &G,
@@ -40,13 +39,13 @@ pub(crate) fn run_from<R: Threads + Wait + Sync, D: Disk, G: Gate + Sync>(
     requires fragments { fragments.now ≡ fragments_of job.now }
     requires shape { shape.now ≡ shape_of job.now }
     requires limits { IsShape shape.now }
-    ensures tried { HasTried D.content D.images D.moment D.honest mode job.now (digest_of bytes.items) fragments.now result disk.old disk.new }
+    ensures tried { HasTried D.content D.images D.moment D.honest beginning job.now digest.now fragments.now result disk.old disk.new }
     ensures counts { CountsFor (status_after result) (D.faults disk.old) (D.faults disk.new) }
     ensures later { D.moment disk.old ≤ D.moment disk.new }
     ensures honest { D.honest disk.new ≡ D.honest disk.old }
 {
     claims_add_up(disk);
-    let entry = match enter(alloc, mode, job, shape, bytes, disk) {
+    let entry = match enter(alloc, beginning, job, shape, digest, disk) {
         Ok(entry) => entry,
         Err(status) => return Err(status),
     };

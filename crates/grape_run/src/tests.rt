@@ -184,8 +184,8 @@ fn word_table() -> [&'static str; 9] {
         "run extra",
         "-h",
         "Run",
-        "ru",
-        "runs",
+        "demo 0 1",
+        "demo 1 5 5",
         "demo 5",
         "resume extra",
         "Resume",
@@ -319,6 +319,40 @@ fn bad_words(rt: HostRuntime) -> Result<(), Fail> {
         assert_eq!(rt; code(&run.status), 2);
         assert!(rt; run.out.bytes().is_empty());
     }
+    Ok(())
+}
+
+/// A demo reads nothing, calls no disk, and writes its line of totals. The words of SplitMix64 from 5 lead from vertex 0 of
+/// two to vertex 1 by an edge of weight 532, and from vertex 0 of three to vertex 1 by one of 610 and to vertex 2 by one of
+/// 232, from which none to vertex 1 is shorter than 64.
+#[test]
+fn demos(rt: HostRuntime) -> Result<(), Fail> {
+    let table = [
+        ("demo 1 5", "summary dist 1 reached 1 sum 0 greatest 0\n"),
+        (
+            "demo 2 5",
+            "summary dist 2 reached 2 sum 532 greatest 532\n",
+        ),
+        (
+            "demo 0003 5",
+            "summary dist 3 reached 3 sum 528 greatest 296\n",
+        ),
+    ];
+    for (words, line) in table {
+        let mut disk = disk_of(rt.alloc(), b"x", 1)?;
+        let run = run_on(&rt, words, b"hello", 100, [1, 0, 0], &mut disk)?;
+        assert_eq!(rt; run.status, Status::Done, "of {words}");
+        assert_eq!(rt; run.out.bytes(), line.as_bytes(), "of {words}");
+        assert_eq!(rt; disk.calls(), 0);
+    }
+    Ok(())
+}
+
+#[test]
+fn a_demo_that_cant_be_written(rt: HostRuntime) -> Result<(), Fail> {
+    let run = run_of(&rt, "demo 1 5", b"", 4, [0, 3, 0])?;
+    assert_eq!(rt; run.status, Status::WriteFault);
+    assert_eq!(rt; run.out.bytes(), b"summary ".as_slice());
     Ok(())
 }
 

@@ -1,6 +1,6 @@
-use Rattle.std.proofs.Common.{rules, ℕ, List, ◌++◌, take, refl, ap, arith, length-append, ◌∙◌}
+use Rattle.std.proofs.Common.{rules, ◌++◌, take, refl, arith, length-append, ◌∙◌}
 use Rattle.std.proofs.lemmas.List.{length-take}
-use Rattle.graph_text.specs.declared.fault.TextFault.TheVariants as text_faults
+use Rattle.grape_run.specs.Runs.{digest_of}
 use Rattle.grape_run.proofs.Pieces.{takes_front-append, reads_bad, reads_whole, reads_failed, fits_bad}
 use Rattle.grape_run.proofs.input.read_job.Goals as goal
 
@@ -13,11 +13,6 @@ pub returns-in_default-read-clause-read : goal.returns-in_default-read-clause-re
 returns-in_default-read-clause-read g c =
     let so_far = c.loop-turn.invariant in reads_failed _ _ _ so_far.text so_far.taken (search rules) so_far.has_read.reads.none_shown
 
-pub returns-in_default-extend_from_slice-clause-read : goal.returns-in_default-extend_from_slice-clause-read
-returns-in_default-extend_from_slice-clause-read g c =
-    let so_far = c.loop-turn.invariant in
-    reads_bad _ _ _ text_faults.NoMemory (takes_front-append _ _ _ _ _ so_far.taken c.in-Ok-read.ensures.moved) tt
-
 pub returns-in-Err-clause-read : goal.returns-in-Err-clause-read
 returns-in-Err-clause-read g c =
     let so_far = c.loop-turn.invariant in
@@ -25,10 +20,11 @@ returns-in-Err-clause-read g c =
     (fits_bad so_far.text c.in-Err.fault (c.in-Err.ensures.answer so_far.text so_far.has_read))
 
 pub returns-then-count-eq0-clause-read : goal.returns-then-count-eq0-clause-read
+unfolding digest_of
 returns-then-count-eq0-clause-read g c =
     let so_far = c.loop-turn.invariant in
     reads_whole _ _ _ so_far.text _ _ so_far.taken (c.in-Ok-read.ensures.end (omega (arith, so_far.room)) c.if-count-eq0.true) c.in-Ok-read.ensures.moved
-    (refl, c.in-Ok-finish.ensures.answer so_far.text so_far.has_read, so_far.kept)
+    (refl, c.in-Ok-finish.ensures.answer so_far.text so_far.has_read, c.finalize-digest.ensures so_far.text so_far.hashed)
 
 pub loop-turn-preserved : goal.loop-turn-preserved
 loop-turn-preserved g c =
@@ -36,7 +32,7 @@ loop-turn-preserved g c =
     let next = take c.in-Ok-read.count c.read.new.to in
     record {
       text = so_far.text ++ next;
-      kept = c.in-Ok-extend_from_slice.ensures.items ∙ ap (λ (t : List ℕ). t ++ next) so_far.kept;
+      hashed = c.update.ensures so_far.text so_far.hashed;
       has_read = c.in_default-feed.ensures.ok so_far.text so_far.has_read;
       taken = takes_front-append _ _ _ _ _ so_far.taken c.in-Ok-read.ensures.moved;
       turns = omega (
