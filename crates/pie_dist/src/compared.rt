@@ -12,7 +12,7 @@ use grape_port::NoMemory;
 use graph_core::{Cut, Fragment, Graph, Job, Query};
 use graph_text::TextFault;
 use pie_core::Pie;
-use program_trials::{edge, evaluated, generated, hand_of, job_of, read_graph};
+use program_trials::{Shape, edge, evaluated, generated, hand_of, job_of, read_graph, shaped};
 use std::alloc::Global;
 use std::process::Abort;
 use std::test::Fail;
@@ -115,6 +115,35 @@ fn both_programs_agree_on_generated_graphs(rt: HostRuntime) -> Result<(), Fail> 
     }
     let chain = job_of(long_chain(alloc)?, Query::Dist(0), 5, Cut::Hash);
     compare_all(&rt, alloc, &chain)?;
+    Ok(())
+}
+
+/// Compares the programs on a shape, in one to three fragments.
+fn compare_shape(rt: &impl Abort, alloc: Global, shape: Shape) -> Result<(), Fail> {
+    for fragments in 1..4 {
+        let by_range = job_of(
+            shaped(alloc, shape, 57)?,
+            Query::Dist(0),
+            fragments,
+            Cut::Range,
+        );
+        compare_all(rt, alloc, &by_range)?;
+        let by_hash = job_of(
+            shaped(alloc, shape, 57)?,
+            Query::Dist(34),
+            fragments,
+            Cut::Hash,
+        );
+        compare_all(rt, alloc, &by_hash)?;
+    }
+    Ok(())
+}
+
+#[test]
+fn both_programs_agree_on_shapes(rt: HostRuntime) -> Result<(), Fail> {
+    compare_shape(&rt, rt.alloc(), Shape::Path)?;
+    compare_shape(&rt, rt.alloc(), Shape::Grid)?;
+    compare_shape(&rt, rt.alloc(), Shape::Star)?;
     Ok(())
 }
 
