@@ -64,10 +64,11 @@ pub fn grape<R: Threads + Wait + Sync, S: Source, O: Sink, N: Sink, D: Disk, G: 
     ensures read_to_end { IfSome (mode_of words.now) (λ m. ¬ IsDemo m → IfSome result.story (λ s. IfSome (S.left input.new) (λ rest. rest ≡ []))) }
     ensures demo { IfSome (mode_of words.now) (λ m. IsDemo m → (S.left input.new ≡ S.left input.old) × (S.faults input.new ≡ S.faults input.old) × (disk.new ≡ disk.old)) }
 
-    // One job and one digest are those of the source's text, or at a demo of its graph, of the story, of what was written, of what is refused of the
-    // state file, and of what a crash leaves there. After Done the whole answer was written, after WriteFault a front of
-    // it. After these two there is the story of its run, which ended by a probe with no worker running and no message
-    // waiting. After DiskFault and NoMemory there may be one, which was stopped for that, or after NoMemory ended.
+    // One job and one digest are those of the source's text, or at a demo the job of its two numbers; and they are those
+    // of the story, of what was written, of what is refused of the state file, and of what a crash leaves there. After
+    // Done the whole answer was written, after WriteFault a front of it. After these two there is the story of its run,
+    // which ended by a probe with no worker running and no message waiting. After DiskFault and NoMemory there may be one,
+    // which was stopped for that, or after NoMemory ended.
     ensures does { Does D.content D.images D.moment D.honest (mode_of words.now) result.status result.story (S.left input.old) (O.written out.old) (O.written out.new) disk.old disk.new }
     ensures flushed { result.status ≡ Status.Done → IsAllFlushed (O.written out.new) (O.flushed out.new) }
     ensures write_fault { result.status ≡ Status.WriteFault → Rose (O.faults out.old) (O.faults out.new) }
