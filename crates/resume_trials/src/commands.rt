@@ -37,9 +37,21 @@ pub(crate) fn command<R: Threads + Wait + Sync + AllocGlobal>(
     text: &[u8],
     disk: &mut MemDisk,
 ) -> Result<Left, NoMemory> {
+    command_of(rt, &[word], text, disk)
+}
+
+/// A command of these words with this input, on this disk. Its pacers add no turns.
+pub(crate) fn command_of<R: Threads + Wait + Sync + AllocGlobal>(
+    rt: &R,
+    asked: &[&str],
+    text: &[u8],
+    disk: &mut MemDisk,
+) -> Result<Left, NoMemory> {
     let alloc = rt.alloc();
     let mut words = Words::new(alloc);
-    words.push(word)?;
+    for word in asked {
+        words.push(word)?;
+    }
     let mut input = MemSource::new(Vec::from_slice(alloc, text)?, 4096, Vec::new(alloc));
     let mut out = MemSink::new(alloc, 4096, 4096, Vec::new(alloc))?;
     let mut note = MemSink::new(alloc, 4096, 4096, Vec::new(alloc))?;

@@ -11,6 +11,8 @@ mod chains;
 #[cfg(test)]
 mod commands;
 #[cfg(test)]
+mod demos;
+#[cfg(test)]
 mod disks;
 #[cfg(test)]
 mod faults;
