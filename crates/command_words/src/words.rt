@@ -1,12 +1,10 @@
 ghost use Rattle.std.specs.Prelude.{◌≡◌, ◌↔◌, ℕ, List, [], ◌∷◌, ◌++◌, Option, Some, None, OnOk, OnErr, IfOk, Err, string_bytes, map};
-ghost use Rattle.command_words.specs.Grammar.{mode_of, generated};
+ghost use Rattle.command_words.specs.Grammar.{mode_of};
 
-use grape_port::{NoMemory, read_number};
+use crate::parsing::{has_dash, read_plain};
+use grape_port::NoMemory;
 use std::alloc::Global;
 use std::marker::Model;
-
-/// The most vertices of a generated graph.
-const MAX_VERTICES: u64 = 1_000_000;
 
 /// What a run does.
 #[derive(Clone, Copy, Debug, PartialEq, Eq)]
@@ -65,33 +63,15 @@ impl Words {
 }
 
 /// What the words ask for: `run`, or `resume`, or `demo` with a count of vertices from 1 to 1,000,000 and a number of up to
-/// 64 bits, both in decimal. All else is refused as `Bad`.
-///
-/// Today this takes no memory, and so `NoMemory` never comes.
-pub fn read_words(_alloc: Global, words: &Words) -> Result<Mode, WordFault>
+/// 64 bits, both in decimal. All else is refused as `Bad`, also where memory ran out. `NoMemory` comes only for words that
+/// ask for something, where `alloc` had no memory for the reading.
+pub fn read_words(alloc: Global, words: &Words) -> Result<Mode, WordFault>
     ensures bad { (result ≡ Err WordFault.Bad) ↔ (mode_of words.now ≡ None) }
     ensures asked { IfOk result (λ mode. mode_of words.now ≡ Some mode) }
 {
-    let mode = match words.words.as_slice() {
-        [word] if word.as_str() == "run" => Some(Mode::Run),
-        [word] if word.as_str() == "resume" => Some(Mode::Resume),
-        [word, vertices, number] if word.as_str() == "demo" => {
-            demo(vertices.as_str(), number.as_str())
-        }
-        _ => None,
-    };
-    mode.ok_or(WordFault::Bad)
-}
-
-/// The graph that two words behind `demo` ask for.
-fn demo(vertices: &str, number: &str) -> Option<Mode>
-    ensures { result ≡ generated vertices.now number.now }
-{
-    let vertices = read_number(vertices.as_bytes())?;
-    let number = read_number(number.as_bytes())?;
-    if vertices == 0 || vertices > MAX_VERTICES {
-        return None;
+    let words = words.words.as_slice();
+    if has_dash(words) {
+        return Err(WordFault::Bad);
     }
-    let vertices = vertices as u32;
-    Some(Mode::Demo { vertices, number })
+    read_plain(alloc, words)
 }
