@@ -1,16 +1,17 @@
 -- The edges of a graph stand in the order of their rows.
-use Rattle.std.proofs.Common.{◌≡◌, ◌≢◌, ℕ, zero, suc, ◌+◌, ◌-◌, ◌<◌, ◌≤◌, true, false, List, [], ◌∷◌, length, map, flat_map, take, drop, get_or, slice_range, refl, ◌∙◌, sym, ap, subst, arith, Bool, cond, ◌==◌, eqb-true}
+use Rattle.std.proofs.Common.{◌≡◌, ◌≢◌, ℕ, zero, suc, ◌+◌, ◌-◌, ◌<◌, ◌≤◌, ◌^◌, true, false, List, [], ◌∷◌, length, map, flat_map, take, drop, get_or, slice_range, refl, ◌∙◌, sym, ap, subst, arith, Bool, cond, ◌==◌, eqb-true}
 use Rattle.std.specs.Prelude.{All, sum_by}
 use Rattle.std.specs.List.Sorted.{IsNonDecreasingBy}
 use Rattle.std.proofs.lemmas.Bool.Decides.{nat_tests}
 use Rattle.std.proofs.lemmas.List.{take-map, drop-map, get_or-map, length-map}
 use Rattle.std.proofs.lemmas.List.Sorted.{IsPermutation-refl}
 use Rattle.graph_core.specs.declared.edge.Edge.{Edge}
+use Rattle.graph_core.specs.declared.fragment.Reading.{Reading}
 use Rattle.graph_core.specs.declared.query.Query.{Query}
 use Rattle.graph_core.specs.declared.query.Query.TheVariants.{Dist, Label, Reach, Sim}
 use Rattle.graph_core.specs.Digraph.{Digraph, count_of, edge_le, IsGraph}
 use Rattle.graph_core.proofs.GraphLemmas.{Rises, RisesFrom, rises-sorted}
-use Rattle.fragment_cut.specs.Filing.{Filed, reading_of, filed_under, rows_under, table, filed_by, by_source, by_target, turned, reads_table, readers_table}
+use Rattle.fragment_cut.specs.Filing.{Filed, reading_of, filed_under, rows_under, table, filed_by, by_source, by_target, turned, reads_table, readers_table, all_turned}
 use Rattle.fragment_cut.proofs.FiledRows.{SplitAt, split_more, row_between}
 use Rattle.fragment_cut.proofs.SortedFiled.{is_less, AreSorted, rows_rise, table_is, map_same, same_under}
 use Rattle.fragment_cut.proofs.InOrder.{sorted_same}
@@ -20,6 +21,9 @@ use Rattle.std.specs.List.{range_with_len}
 use Rattle.std.proofs.lemmas.List.Sums.{sum_by-cons}
 use Rattle.fragment_cut.proofs.EdgeFiles.{reads_table_is}
 use Rattle.fragment_cut.proofs.Turning.{readers_table_is}
+use Rattle.fragment_cut.proofs.TurnedTables.{turned_table_is, turned_inside}
+use Rattle.std.proofs.lemmas.List.Elements.{All-map}
+use Rattle.std.proofs.lemmas.List.FromFn.{length-map-range_with_len}
 
 not_less : (a b : Edge) → edge_le a b ≡ true → is_less (by_source b) (by_source a) ≡ false
 not_less a b h = grind (arith, nat_tests, h)
@@ -70,6 +74,55 @@ module _ (g : Digraph) (is : IsGraph g) where
 
   pub reach_readers : (q : Query) (s : ℕ) → q ≡ Reach s → table (map by_source g.edges) (count_of g) ≡ readers_table g q
   reach_readers q s e = ap (λ l. table l (count_of g)) (sym (reach_files s g.edges)) ∙ readers_table_is g (Reach s) is ∙ ap (readers_table g) (sym e)
+
+turned_edges : (edges : List Edge) → map turned (map by_source edges) ≡ map by_target edges
+turned_edges [] = refl
+turned_edges (e ∷ edges) = ap (λ l. by_target e ∷ l) (turned_edges edges)
+
+-- the table of the edges' targets, turned round
+module _ (g : Digraph) (is : IsGraph g) (targets : List (List Reading)) (n : ℕ) (e : targets ≡ table (map by_source g.edges) (count_of g)) (count : n ≡ count_of g) where
+  by_source_inside : All (λ (x : Filed). x.row < count_of g) (map by_source g.edges)
+  by_source_inside = All-map (λ (x : Filed). x.row < count_of g) by_source g.edges (λ k d l. (is.ends k d l).0)
+
+  by_source_placed : All (λ (x : Filed). x.place < count_of g) (map by_source g.edges)
+  by_source_placed = All-map (λ (x : Filed). x.place < count_of g) by_source g.edges (λ k d l. (is.ends k d l).1)
+
+  pub sources_inside : All (λ (x : Filed). x.row < n) (all_turned targets)
+  sources_inside =
+      subst (λ m. All (λ (x : Filed). x.row < m) (all_turned targets)) (sym count)
+      (subst (λ l. All (λ (x : Filed). x.row < count_of g) (all_turned l)) (sym e) (turned_inside (map by_source g.edges) (count_of g) by_source_inside (count_of g) by_source_placed))
+
+  pub sources_are : rows_under (all_turned targets) n ≡ table (map by_target g.edges) (count_of g)
+  sources_are =
+      ap (rows_under (all_turned targets)) count ∙ ap (λ l. rows_under (all_turned l) (count_of g)) e
+      ∙ turned_table_is (map by_source g.edges) (count_of g) by_source_inside (count_of g) ∙ ap (λ l. table l (count_of g)) (turned_edges g.edges)
+
+pub sources_short : (g : Digraph) → IsGraph g → (targets : List (List Reading)) → targets ≡ table (map by_source g.edges) (count_of g) → length targets < 2 ^ 32
+sources_short g is targets e =
+    let few = is.few_vertices in
+    omega (arith, few, ap length e, length-map-range_with_len (λ row. sorted_readings (filed_under (map by_source g.edges) row)) 0 (count_of g))
+
+module _ (g : Digraph) (is : IsGraph g) where
+  dist_sources : (s : ℕ) (edges : List Edge) → flat_map (filed_by (Dist s)) edges ≡ map by_target edges
+  dist_sources s [] = refl
+  dist_sources s (e ∷ edges) = ap (λ l. by_target e ∷ l) (dist_sources s edges)
+
+  reach_sources : (s : ℕ) (edges : List Edge) → flat_map (filed_by (Reach s)) edges ≡ map by_target edges
+  reach_sources s [] = refl
+  reach_sources s (e ∷ edges) = ap (λ l. by_target e ∷ l) (reach_sources s edges)
+
+  sim_targets : (p : _) (edges : List Edge) → map turned (flat_map (filed_by (Sim p)) edges) ≡ map by_target edges
+  sim_targets p [] = refl
+  sim_targets p (e ∷ edges) = ap (λ l. by_target e ∷ l) (sim_targets p edges)
+
+  pub dist_reads : (q : Query) (s : ℕ) → q ≡ Dist s → table (map by_target g.edges) (count_of g) ≡ reads_table g q
+  dist_reads q s e = ap (λ l. table l (count_of g)) (sym (dist_sources s g.edges)) ∙ reads_table_is g (Dist s) ∙ ap (reads_table g) (sym e)
+
+  pub reach_reads : (q : Query) (s : ℕ) → q ≡ Reach s → table (map by_target g.edges) (count_of g) ≡ reads_table g q
+  reach_reads q s e = ap (λ l. table l (count_of g)) (sym (reach_sources s g.edges)) ∙ reads_table_is g (Reach s) ∙ ap (reads_table g) (sym e)
+
+  pub sim_readers : (q : Query) (p : _) → q ≡ Sim p → table (map by_target g.edges) (count_of g) ≡ readers_table g q
+  sim_readers q p e = ap (λ l. table l (count_of g)) (sym (sim_targets p g.edges)) ∙ readers_table_is g (Sim p) is ∙ ap (readers_table g) (sym e)
 
 -- under label an edge is read the same way turned round
 label_edge : (f : Filed → ℕ) (e : Edge) (b : Bool) → (e.from == e.to) ≡ b → sum_by (λ x. f (turned x)) (cond b (by_source e ∷ []) (by_source e ∷ by_target e ∷ [])) ≡ sum_by f (cond b (by_source e ∷ []) (by_source e ∷ by_target e ∷ []))

@@ -5,7 +5,12 @@ pub mod EdgeFiles
 pub mod Turning
 pub mod EdgeRows
 pub mod Pieces
+pub mod Counted
+pub mod Filled
 pub mod Placing
+pub mod TurnedTables
+pub mod PlacedRows
+pub mod Marked
 pub mod OnlyFragment
 pub mod HalfBuilt
 pub mod RouteTables

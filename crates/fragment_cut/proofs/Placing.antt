@@ -43,7 +43,7 @@ module _ (job : Job) (is : IsJob job) (i : ℕ) (small : i < job.settings.fragme
   owned_inside p v h = places_inside job is i small p v (owned_placed job is i small p v h)
 
   -- the row of an owned vertex in the table of all reads
-  reads-row : (p : ℕ) → p < length (owned_of job i) → slice_index_or (reads_table job.graph job.query) (slice_index (owned_of job i) p) [] ≡ sorted_readings (map reading_at (reads_of job.graph job.query (slice_index (owned_of job i) p)))
+  pub reads-row : (p : ℕ) → p < length (owned_of job i) → slice_index_or (reads_table job.graph job.query) (slice_index (owned_of job i) p) [] ≡ sorted_readings (map reading_at (reads_of job.graph job.query (slice_index (owned_of job i) p)))
   reads-row p h =
       let v = slice_index (owned_of job i) p in
       get_or-map-range_with_len (λ v. sorted_readings (map reading_at (reads_of job.graph job.query v))) 0 (count_of job.graph) v v [] (owned_inside p v (owned_stands p h)) (omega arith)
@@ -68,7 +68,7 @@ module _ (job : Job) (is : IsJob job) (i : ℕ) (small : i < job.settings.fragme
     abbrev vertex_at : ℕ → ℕ
     vertex_at p = slice_index (owned_of job i) p
 
-    placed_read : (p : ℕ) → p < length (owned_of job i) → (r : Read) → Contains (reads_of job.graph job.query (vertex_at p)) r → place_of job i r.vertex ≡ slice_index P r.vertex ∷ []
+    pub placed_read : (p : ℕ) → p < length (owned_of job i) → (r : Read) → Contains (reads_of job.graph job.query (vertex_at p)) r → place_of job i r.vertex ≡ slice_index P r.vertex ∷ []
     placed_read p h r c =
         let s = read_stands job is i small p (vertex_at p) r (owned_stands p h) c in
         place_is job is i small s.0 r.vertex s.1 ∙ ap (λ q. q ∷ []) (sym (right s.0 r.vertex s.1))
@@ -190,7 +190,7 @@ module _ (job : Job) (is : IsJob job) (i : ℕ) (small : i < job.settings.fragme
 -- ---- what holds of each entry
 
 module _ {X : Type 0} (Q : X → Type 0) where
-  every_from : (xs : List X) → ((x : X) → Contains xs x → Q x) → AllByRecursion Q xs
+  pub every_from : (xs : List X) → ((x : X) → Contains xs x → Q x) → AllByRecursion Q xs
   every_from [] h = tt
   every_from (x ∷ xs) h = (h x (contains_here x xs), every_from xs (λ y c. h y (contains_later x xs y c)))
 
@@ -215,7 +215,7 @@ module _ (Q : Reading → Type 0) where
   every-insert a [] pa ps = (pa, tt)
   every-insert a (b ∷ bs) pa ps = every_step (comes_before b a) a b bs pa ps.0 ps.1 (every-insert a bs pa ps.1)
 
-  every-sorted : (bs : List Reading) → AllByRecursion Q bs → AllByRecursion Q (sorted_readings bs)
+  pub every-sorted : (bs : List Reading) → AllByRecursion Q bs → AllByRecursion Q (sorted_readings bs)
   every-sorted [] ps = tt
   every-sorted (a ∷ bs) ps = every-insert a (sorted_readings bs) ps.0 (every-sorted bs ps.1)
 

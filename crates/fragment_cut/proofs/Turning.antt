@@ -41,7 +41,7 @@ sum_by_rows n f (e ∷ filed) h =
     ∙ sym (sum_by-cons f e filed)
 
 -- in one row an entry is its reading
-row_term : (f : Reading → ℕ) (u w : ℕ) (e : Filed) (b : Bool) → (e.row == w) ≡ b
+pub row_term : (f : Reading → ℕ) (u w : ℕ) (e : Filed) (b : Bool) → (e.row == w) ≡ b
     → cond b (cond (e.place == u) (f (record { place = e.row; weight = e.weight })) 0) 0 ≡ cond b (cond (e.place == u) (f (record { place = w; weight = e.weight })) 0) 0
 row_term f u w e true h = ap (λ k. cond (e.place == u) (f (record { place = k; weight = e.weight })) 0) (eqb-true e.row w h)
 row_term f u w e false h = refl

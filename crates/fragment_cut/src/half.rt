@@ -1,15 +1,12 @@
 ghost use Rattle.std.specs.Prelude.{◌≡◌, ◌<◌, ◌≤◌, ◌^◌, ◌+◌, ◌++◌, ℕ, map, length, IfOk, All, slice_index};
 ghost use Rattle.graph_core.specs.Graphs.{count_of, IsJob};
 ghost use Rattle.graph_core.specs.Parts.{IsFragment};
-ghost use Rattle.graph_core.specs.Fragments.{numbers_below, owned_of, mirrors_of, places_of, StandsAt};
-ghost use Rattle.fragment_cut.specs.Filing.{reads_table, readers_table, filed_rows, with_place};
+ghost use Rattle.graph_core.specs.Fragments.{numbers_below, owned_of, mirrors_of, places_of, readings_of, readers_of, StandsAt};
+ghost use Rattle.fragment_cut.specs.Filing.{reads_table, readers_table};
 ghost use Rattle.fragment_cut.specs.Owners.{owners_of, StandOnce};
 
-use crate::filed::table_of;
-use crate::filing::Filed;
-use crate::piece::{
-    filed_reads, marks_of, mirrors_by, number_places, owned_by, place_reads, turned_of,
-};
+use crate::counting::turned_table;
+use crate::piece::{marks_of, mirrors_by, number_places, owned_by, placed_rows};
 use grape_port::NoMemory;
 use graph_core::{Fragment, FragmentParts, Job, Reading, Route, Rows};
 use std::alloc::Global;
@@ -32,21 +29,23 @@ impl Model for Half {
     ghost view = { λ h. record { owned = h.owned.items; mirrors = h.mirrors.items; readings = h.readings; readers = h.readers } };
 }
 
-/// The mirrors of a fragment whose reads are filed so, by rising index.
+/// The mirrors of a fragment that owns these vertices, by rising index.
 fn mirrors_read(
     alloc: Global,
     job: &Job,
     owners: &[u32],
     fragment: u32,
-    filed: &[Filed],
+    owned: &[u32],
+    reads: &Rows<Reading>,
 ) -> Result<Vec<u32>, NoMemory>
     requires job { IsJob job.now }
     requires fragment { fragment < job.now.settings.fragments }
     requires owners { owners.now ≡ owners_of job.now }
-    requires filed { filed.now ≡ filed_rows (owned_of job.now fragment) (reads_table job.now.graph job.now.query) (length (owned_of job.now fragment)) }
+    requires owned { owned.now ≡ owned_of job.now fragment }
+    requires reads { reads.now ≡ reads_table job.now.graph job.now.query }
     ensures { IfOk result (λ mirrors. mirrors.items ≡ mirrors_of job.now fragment) }
 {
-    let marks = marks_of(alloc, filed, job.graph.count())?;
+    let marks = marks_of(alloc, owned, reads, job.graph.count())?;
     mirrors_by(alloc, job, owners, fragment, &marks)
 }
 
@@ -55,23 +54,50 @@ fn number_all(owned: &[u32], mirrors: &[u32], places: &mut [u32])
     requires few { length owned.now + length mirrors.now < 2 ^ 32 }
     requires inside { All (λ v. v < length places.old) (owned.now ++ mirrors.now) }
     requires once { StandOnce (owned.now ++ mirrors.now) }
-    ensures { (p v : ℕ) → StandsAt (owned.now ++ mirrors.now) p v → slice_index places.new v ≡ p }
+    ensures len { length places.new ≡ length places.old }
+    ensures places { (p v : ℕ) → StandsAt (owned.now ++ mirrors.now) p v → slice_index places.new v ≡ p }
 {
     number_places(owned, 0, places);
     number_places(mirrors, owned.len() as u32, places);
 }
 
-/// What a fragment reads, filed under the owned places, with places for vertices.
-fn placed_reads(owned: &[u32], mirrors: &[u32], places: &mut [u32], filed: &mut [Filed])
-    requires few { length owned.now + length mirrors.now < 2 ^ 32 }
-    requires inside { All (λ v. v < length places.old) (owned.now ++ mirrors.now) }
-    requires once { StandOnce (owned.now ++ mirrors.now) }
-    requires filed { All (λ entry. entry.place < length places.old) filed.old }
-    ensures placed { filed.new ≡ map (with_place places.new) filed.old }
-    ensures places { (p v : ℕ) → StandsAt (owned.now ++ mirrors.now) p v → slice_index places.new v ≡ p }
+/// What a fragment's owned vertices read, by place. It leaves the place of each of its vertices.
+fn fragment_reads(
+    alloc: Global,
+    job: &Job,
+    fragment: u32,
+    owned: &[u32],
+    mirrors: &[u32],
+    reads: &Rows<Reading>,
+    places: &mut [u32],
+) -> Result<Rows<Reading>, NoMemory>
+    requires job { IsJob job.now }
+    requires fragment { fragment < job.now.settings.fragments }
+    requires owned { owned.now ≡ owned_of job.now fragment }
+    requires mirrors { mirrors.now ≡ mirrors_of job.now fragment }
+    requires reads { reads.now ≡ reads_table job.now.graph job.now.query }
+    requires places { length places.old ≡ count_of job.now.graph }
+    ensures { IfOk result (λ readings. readings ≡ map (readings_of job.now fragment) (owned_of job.now fragment)) }
 {
     number_all(owned, mirrors, places);
-    place_reads(places, filed);
+    placed_rows(alloc, owned, reads, places)
+}
+
+/// By whom the vertices of a fragment are read, by place, where its owned vertices read this.
+fn fragment_readers(
+    alloc: Global,
+    job: &Job,
+    fragment: u32,
+    readings: &Rows<Reading>,
+    places: u32,
+) -> Result<Rows<Reading>, NoMemory>
+    requires job { IsJob job.now }
+    requires fragment { fragment < job.now.settings.fragments }
+    requires readings { readings.now ≡ map (readings_of job.now fragment) (owned_of job.now fragment) }
+    requires places { places ≡ length (places_of job.now fragment) }
+    ensures { IfOk result (λ readers. readers ≡ map (readers_of job.now fragment) (places_of job.now fragment)) }
+{
+    turned_table(alloc, readings, places)
 }
 
 /// The numbers from 0 up to this one.
@@ -106,12 +132,10 @@ impl Half {
         ensures { IfOk result (λ half. half ≡ half_of job.now fragment) }
     {
         let owned = owned_by(alloc, job, owners, fragment)?;
-        let mut filed = filed_reads(alloc, &owned, reads)?;
-        let mirrors = mirrors_read(alloc, job, owners, fragment, &filed)?;
-        placed_reads(&owned, &mirrors, places, &mut filed);
-        let mut turned = turned_of(alloc, &filed)?;
-        let readings = table_of(alloc, &mut filed, owned.len() as u32)?;
-        let readers = table_of(alloc, &mut turned, (owned.len() + mirrors.len()) as u32)?;
+        let mirrors = mirrors_read(alloc, job, owners, fragment, &owned, reads)?;
+        let readings = fragment_reads(alloc, job, fragment, &owned, &mirrors, reads, places)?;
+        let count = (owned.len() + mirrors.len()) as u32;
+        let readers = fragment_readers(alloc, job, fragment, &readings, count)?;
         Ok(Half {
             owned,
             mirrors,

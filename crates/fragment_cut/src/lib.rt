@@ -4,10 +4,12 @@
 //! whole graph stands in one of them, with what it reads there as often as there are edges. Programs
 //! evaluate fragments; they need nothing of the graph itself.
 //!
-//! All tables are made the same way: entries are filed under the rows that they belong to, sorted where
-//! they aren't in order, and read off. With one fragment the tables of the graph are those of the fragment.
+//! A fragment's tables are read off those of the graph: its readings row by row, with places for vertices, and its
+//! readers by turning the readings round, which counts and takes no sort. What vertices read under `label`, and the
+//! routes, are filed under their rows and sorted. With one fragment the tables of the graph are those of the fragment.
 #![tactic(auto)]
 
+mod counting;
 mod cutting;
 mod edge_rows;
 mod filed;

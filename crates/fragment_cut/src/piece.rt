@@ -1,11 +1,10 @@
-ghost use Rattle.std.specs.Prelude.{◌≡◌, ◌<◌, ◌≤◌, ◌^◌, ◌+◌, ◌++◌, ◌==◌, ℕ, [], map, length, IfOk, OnOk, All, slice_index, slice_index_or, false, vec_len};
+ghost use Rattle.std.specs.Prelude.{◌≡◌, ◌<◌, ◌≤◌, ◌^◌, ◌+◌, ◌++◌, ◌==◌, ℕ, [], ◌∷◌, if◌then◌else◌, map, filter, length, IfOk, OnOk, All, slice_index, slice_index_or, false, vec_len};
 ghost use Rattle.std.specs.List.{list_any};
 ghost use Rattle.graph_core.specs.Graphs.{count_of, IsGraph};
 ghost use Rattle.graph_core.specs.Fragments.{owned_of, mirrors_of, is_read_in, StandsAt};
-ghost use Rattle.fragment_cut.specs.Filing.{file_under, filed_rows, with_place, turned};
+ghost use Rattle.fragment_cut.specs.Filing.{filed_rows, placed_reading, is_owned_in, is_mirrored_in, placed_row, placed_rows};
 ghost use Rattle.fragment_cut.specs.Owners.{owners_of, StandsNowhere, StandOnce};
 
-use crate::filing::Filed;
 use grape_port::NoMemory;
 use graph_core::{Job, Reading, Rows};
 use std::alloc::Global;
@@ -29,47 +28,24 @@ pub fn owned_by(
     Ok(owned)
 }
 
-/// Adds a row's readings.
-fn file_row(row: u32, readings: &[Reading], filed: &mut Vec<Filed>) -> Result<(), NoMemory>
-    ensures { OnOk result (filed.new.items ≡ filed.old.items ++ map (file_under row) readings.now) }
-{
-    for reading in readings {
-        filed.push(Filed {
-            row,
-            place: reading.place,
-            weight: reading.weight,
-        })?;
-    }
-    Ok(())
-}
-
-/// What these vertices read, filed under their places in this list.
-pub fn filed_reads(
+/// For each vertex below `count`, whether one of these vertices reads it.
+pub fn marks_of(
     alloc: Global,
     vertices: &[u32],
     reads: &Rows<Reading>,
-) -> Result<Vec<Filed>, NoMemory>
-    requires few { length vertices.now < 2 ^ 32 }
+    count: u32,
+) -> Result<Vec<bool>, NoMemory>
     requires inside { All (λ v. v < length reads.now) vertices.now }
-    ensures { IfOk result (λ filed. filed.items ≡ filed_rows vertices.now reads.now (length vertices.now)) }
-{
-    let mut filed = Vec::new(alloc);
-    for place in 0..vertices.len() as u32 {
-        let vertex = vertices[place as usize];
-        file_row(place, reads.row(vertex as usize), &mut filed)?;
-    }
-    Ok(filed)
-}
-
-/// For each vertex below `count`, whether it stands in an entry.
-pub fn marks_of(alloc: Global, filed: &[Filed], count: u32) -> Result<Vec<bool>, NoMemory>
-    requires { All (λ entry. entry.place < count) filed.now }
+    requires read { All (λ row. All (λ r. r.place < count) row) reads.now }
     ensures len { IfOk result (λ marks. length marks.items ≡ count) }
-    ensures marks { IfOk result (λ marks. (v : ℕ) → v < count → slice_index_or marks.items v false ≡ list_any (λ entry. entry.place == v) filed.now) }
+    ensures marks { IfOk result (λ marks. (v : ℕ) → v < count → slice_index_or marks.items v false ≡ list_any (λ entry. entry.place == v) (filed_rows vertices.now reads.now (length vertices.now))) }
 {
     let mut marks = vec![in alloc; false; count as usize]?;
-    for entry in filed {
-        marks[entry.place as usize] = true;
+    'vertices: for vertex in vertices {
+        let readings = reads.row(*vertex as usize);
+        'row: for reading in readings {
+            marks[reading.place as usize] = true;
+        }
     }
     Ok(marks)
 }
@@ -109,27 +85,86 @@ pub fn number_places(vertices: &[u32], first: u32, places: &mut [u32])
     }
 }
 
-/// Puts a place for the vertex of each entry.
-pub fn place_reads(places: &[u32], filed: &mut [Filed])
-    requires { All (λ entry. entry.place < length places.now) filed.old }
-    ensures { filed.new ≡ map (with_place places.now) filed.old }
+/// Adds a reading where it is wanted.
+fn push_if(wanted: bool, reading: Reading, made: &mut Vec<Reading>) -> Result<(), NoMemory>
+    ensures { OnOk result (made.new.items ≡ made.old.items ++ (if wanted then reading ∷ [] else [])) }
 {
-    for entry in filed.iter_mut() {
-        entry.place = places[entry.place as usize];
+    if wanted {
+        made.push(reading)?;
     }
+    Ok(())
 }
 
-/// The readings filed under what they read.
-pub fn turned_of(alloc: Global, filed: &[Filed]) -> Result<Vec<Filed>, NoMemory>
-    ensures { IfOk result (λ made. made.items ≡ map turned filed.now) }
+/// Adds what a row reads of owned places, the first `owned`.
+fn place_owned(
+    row: &[Reading],
+    places: &[u32],
+    owned: u32,
+    made: &mut Vec<Reading>,
+) -> Result<(), NoMemory>
+    requires { All (λ r. r.place < length places.now) row.now }
+    ensures { OnOk result (made.new.items ≡ made.old.items ++ map (placed_reading places.now) (filter (is_owned_in places.now owned) row.now)) }
 {
-    let mut made = Vec::with_capacity(alloc, filed.len())?;
-    for entry in filed {
-        made.push(Filed {
-            row: entry.place,
-            place: entry.row,
-            weight: entry.weight,
-        })?;
+    for reading in row {
+        let place = places[reading.place as usize];
+        let weight = reading.weight;
+        push_if(place < owned, Reading { place, weight }, made)?;
+    }
+    Ok(())
+}
+
+/// Adds what a row reads of mirrors, whose places follow the owned ones.
+fn place_mirrored(
+    row: &[Reading],
+    places: &[u32],
+    owned: u32,
+    made: &mut Vec<Reading>,
+) -> Result<(), NoMemory>
+    requires { All (λ r. r.place < length places.now) row.now }
+    ensures { OnOk result (made.new.items ≡ made.old.items ++ map (placed_reading places.now) (filter (is_mirrored_in places.now owned) row.now)) }
+{
+    for reading in row {
+        let place = places[reading.place as usize];
+        let weight = reading.weight;
+        push_if(!(place < owned), Reading { place, weight }, made)?;
+    }
+    Ok(())
+}
+
+/// Puts what a row reads, with places for vertices and in their order, in place of what `made` holds.
+fn place_row(
+    row: &[Reading],
+    places: &[u32],
+    owned: u32,
+    made: &mut Vec<Reading>,
+) -> Result<(), NoMemory>
+    requires { All (λ r. r.place < length places.now) row.now }
+    ensures { OnOk result (made.new.items ≡ placed_row places.now owned row.now) }
+{
+    made.clear();
+    place_owned(row, places, owned, made)?;
+    place_mirrored(row, places, owned, made)?;
+    Ok(())
+}
+
+/// What these vertices read, with places for vertices. The vertices themselves have the first places.
+pub fn placed_rows(
+    alloc: Global,
+    vertices: &[u32],
+    reads: &Rows<Reading>,
+    places: &[u32],
+) -> Result<Rows<Reading>, NoMemory>
+    requires few { length vertices.now < 2 ^ 32 }
+    requires inside { All (λ v. v < length reads.now) vertices.now }
+    requires read { All (λ row. All (λ r. r.place < length places.now) row) reads.now }
+    ensures { IfOk result (λ made. made ≡ placed_rows vertices.now places.now reads.now) }
+{
+    let owned = vertices.len() as u32;
+    let mut made = Rows::with_capacity(alloc, vertices.len(), 0)?;
+    let mut row = Vec::new(alloc);
+    for vertex in vertices {
+        place_row(reads.row(*vertex as usize), places, owned, &mut row)?;
+        made.push_row(&row)?;
     }
     Ok(made)
 }

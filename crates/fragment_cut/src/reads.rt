@@ -1,13 +1,13 @@
 ghost use Rattle.std.specs.Prelude.{◌≡◌, ◌++◌, map, flat_map, OnOk, IfOk};
-ghost use Rattle.graph_core.specs.Graphs.{IsGraph};
-ghost use Rattle.fragment_cut.specs.Filing.{filed_by, turned, reads_table, readers_table};
+ghost use Rattle.graph_core.specs.Graphs.{IsGraph, count_of};
+ghost use Rattle.fragment_cut.specs.Filing.{table, by_target, filed_by, reads_table, readers_table};
 
+use crate::counting::turned_table;
 use crate::edge_rows::targets_table;
 use crate::filed::table_of;
 use crate::filing::Filed;
-use crate::piece::turned_of;
 use grape_port::NoMemory;
-use graph_core::{Edge, Job, Query, Reading, Rows};
+use graph_core::{Edge, Graph, Job, Query, Reading, Rows};
 use std::alloc::Global;
 
 /// Adds what is read along an edge, filed under the vertices that read it. A loop is read once.
@@ -58,21 +58,13 @@ fn sorted_reads(alloc: Global, job: &Job) -> Result<Rows<Reading>, NoMemory>
     table_of(alloc, &mut filed, job.graph.count())
 }
 
-/// What is read along the edges, filed under the vertices that are read.
-fn turned_edges(alloc: Global, query: &Query, edges: &[Edge]) -> Result<Vec<Filed>, NoMemory>
-    ensures { IfOk result (λ filed. filed.items ≡ map turned (flat_map (filed_by query.now) edges.now)) }
+/// The edges by the vertices that they reach: for each vertex those that its edges leave.
+fn sources_table(alloc: Global, graph: &Graph) -> Result<Rows<Reading>, NoMemory>
+    requires { IsGraph graph.now }
+    ensures { IfOk result (λ made. made ≡ table (map by_target graph.now.edges) (count_of graph.now)) }
 {
-    let filed = filed_edges(alloc, query, edges)?;
-    turned_of(alloc, &filed)
-}
-
-/// By whom each vertex is read, by a sort.
-fn sorted_readers(alloc: Global, job: &Job) -> Result<Rows<Reading>, NoMemory>
-    requires { IsGraph job.now.graph }
-    ensures { IfOk result (λ readers. readers ≡ readers_table job.now.graph job.now.query) }
-{
-    let mut filed = turned_edges(alloc, &job.query, job.graph.edges())?;
-    table_of(alloc, &mut filed, job.graph.count())
+    let targets = targets_table(alloc, graph)?;
+    turned_table(alloc, &targets, graph.count())
 }
 
 /// What each vertex reads, with vertex indexes for places, in order of vertex and weight.
@@ -81,8 +73,10 @@ pub fn reads_table(alloc: Global, job: &Job) -> Result<Rows<Reading>, NoMemory>
     ensures { IfOk result (λ reads. reads ≡ reads_table job.now.graph job.now.query) }
 {
     match &job.query {
+        Query::Dist(_) => sources_table(alloc, &job.graph),
+        Query::Reach(_) => sources_table(alloc, &job.graph),
         Query::Sim(_) => targets_table(alloc, &job.graph),
-        _ => sorted_reads(alloc, job),
+        Query::Label => sorted_reads(alloc, job),
     }
 }
 
@@ -112,6 +106,6 @@ pub fn readers_table(
         Query::Dist(_) => targets_table(alloc, &job.graph),
         Query::Reach(_) => targets_table(alloc, &job.graph),
         Query::Label => copy_of(alloc, reads, job.graph.edges().len()),
-        Query::Sim(_) => sorted_readers(alloc, job),
+        Query::Sim(_) => sources_table(alloc, &job.graph),
     }
 }

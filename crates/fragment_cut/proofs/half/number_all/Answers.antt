@@ -17,7 +17,7 @@ number_places-requires-2-clause-inside c = λ k d h.
 pub number_places-requires-2-clause-once : goal.number_places-requires-2-clause-once
 number_places-requires-2-clause-once c = once_right c.args.owned.now c.args.mirrors.now c.requires.once
 
-pub returns : goal.returns
-returns c =
+pub returns-clause-places : goal.returns-clause-places
+returns-clause-places c =
     numbered_all c.args.owned.now c.args.mirrors.now c.args.places.now c.number_places.new.places c.number_places-2.new.places c.requires.once
     c.number_places.ensures.numbered c.number_places-2.ensures.numbered c.number_places-2.ensures.others
