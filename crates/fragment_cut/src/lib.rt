@@ -5,8 +5,9 @@
 //! evaluate fragments; they need nothing of the graph itself.
 //!
 //! A fragment's tables are read off those of the graph: its readings row by row, with places for vertices, and its
-//! readers by turning the readings round, which counts and takes no sort. What vertices read under `label`, and the
-//! routes, are filed under their rows and sorted. With one fragment the tables of the graph are those of the fragment.
+//! readers by turning the readings round, which counts and takes no sort. The routes are the mirrors of all fragments
+//! turned round. What vertices read under `label` is filed under its rows and sorted. With one fragment the tables of
+//! the graph are those of the fragment.
 #![tactic(auto)]
 
 mod counting;
