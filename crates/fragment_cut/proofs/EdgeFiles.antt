@@ -1,10 +1,9 @@
 -- What is filed along edges is what their vertices read.
-use Rattle.std.proofs.Common.{◌≡◌, ℕ, ◌+◌, ◌<◌, Bool, true, false, cond, ◌==◌, List, [], ◌∷◌, ◌++◌, length, map, filter, flat_map, take, get_or, refl, ◌∙◌, sym, ap, subst, eqb-true, eq-eqb}
+use Rattle.std.proofs.Common.{◌≡◌, ℕ, ◌<◌, Bool, true, false, cond, ◌==◌, List, [], ◌∷◌, ◌++◌, map, filter, flat_map, get_or, refl, ◌∙◌, sym, ap, subst, eqb-true, eq-eqb}
 use Rattle.std.specs.Prelude.{All}
 use Rattle.std.specs.List.{range_with_len, AllByRecursion}
 use Rattle.std.proofs.lemmas.Bool.{both_ways}
-use Rattle.std.proofs.lemmas.List.{append-nil, map-append, take_more}
-use Rattle.std.proofs.lemmas.List.Concat.{flat_map-append}
+use Rattle.std.proofs.lemmas.List.{map-append}
 use Rattle.std.proofs.lemmas.List.Elements.{filter-append, All-append, All-head, All-tail, All-nil, All-from_recursion}
 use Rattle.graph_core.specs.declared.edge.Edge.{Edge}
 use Rattle.graph_core.specs.declared.query.Query.{Query}
@@ -12,17 +11,26 @@ use Rattle.graph_core.specs.declared.query.Query.TheVariants.{Dist, Label, Reach
 use Rattle.graph_core.specs.Digraph.{Digraph, count_of, IsGraph}
 use Rattle.graph_core.specs.Queries.{reads_of, edge_reads}
 use Rattle.graph_core.specs.Fragments.{sorted_readings}
-use Rattle.fragment_cut.specs.Filing.{Filed, reading_of, filed_under, filed_by, by_source, by_target, reading_at, reads_table, table}
+use Rattle.fragment_cut.specs.Filing.{Filed, reading_of, filed_under, by_source, by_target, reading_at, reads_table, table}
 use Rattle.fragment_cut.proofs.SortedFiled.{map_same}
+
+-- the reads along an edge, filed under the vertices that read
+abbrev pub filed_by : Query → Edge → List Filed
+filed_by (Dist source) e = by_target e ∷ []
+filed_by Label e = cond (e.from == e.to) (by_source e ∷ []) (by_source e ∷ by_target e ∷ [])
+filed_by (Reach source) e = by_target e ∷ []
+filed_by (Sim pattern) e = by_source e ∷ []
+
+-- an entry whose vertex is replaced by its place
+abbrev pub with_place : List ℕ → Filed → Filed
+with_place places entry = record { row = entry.row; place = get_or places entry.place 0; weight = entry.weight }
+
+-- a reading filed under what is read
+abbrev pub turned : Filed → Filed
+turned entry = record { row = entry.place; place = entry.row; weight = entry.weight }
 
 pub under-append : (xs ys : List Filed) (row : ℕ) → filed_under (xs ++ ys) row ≡ filed_under xs row ++ filed_under ys row
 under-append xs ys row = ap (map reading_of) (filter-append (λ e. e.row == row) xs ys) ∙ map-append reading_of (filter (λ e. e.row == row) xs) (filter (λ e. e.row == row) ys)
-
-pub flat_map_more : {X A : Type 0} (f : X → List A) (xs : List X) (i : ℕ) (d : X) → i < length xs → flat_map f (take (i + 1) xs) ≡ flat_map f (take i xs) ++ f (get_or xs i d)
-flat_map_more f xs i d h = ap (flat_map f) (take_more xs i d h) ∙ flat_map-append f (take i xs) (get_or xs i d ∷ []) ∙ ap (λ l. flat_map f (take i xs) ++ l) (append-nil (f (get_or xs i d)))
-
-pub append_more : {X A : Type 0} (f : X → List A) (xs : List X) (i : ℕ) (d : X) (old new : List A) → new ≡ old ++ f (get_or xs i d) → old ≡ flat_map f (take i xs) → i < length xs → new ≡ flat_map f (take (i + 1) xs)
-append_more f xs i d old new e h l = e ∙ ap (λ o. o ++ f (get_or xs i d)) h ∙ sym (flat_map_more f xs i d l)
 
 target_case : (e : Edge) (c : Bool) → map reading_of (cond c (by_target e ∷ []) []) ≡ map reading_at (cond c (record { vertex = e.from; weight = e.weight } ∷ []) [])
 target_case e true = refl
@@ -101,12 +109,3 @@ all_at f xs ys n m e g h =
     let P : ℕ → Type 0 = λ k. All (λ x. f x < k) xs in
     let Q : List _ → Type 0 = λ l. All (λ x. f x < m) l in
     subst P (sym g) (subst Q (sym e) h)
-
-pub reads_made : (g : Digraph) (q : Query) (filed : List Filed) (n : ℕ) → filed ≡ flat_map (filed_by q) g.edges → n ≡ count_of g → table filed n ≡ reads_table g q
-reads_made g q filed n e f = ap (λ x. table x n) e ∙ ap (table (flat_map (filed_by q) g.edges)) f ∙ reads_table_is g q
-
-pub filed_inside : (g : Digraph) (q : Query) (filed : List Filed) (n : ℕ) → IsGraph g → filed ≡ flat_map (filed_by q) g.edges → n ≡ count_of g → All (λ x. x.row < n) filed
-filed_inside g q filed n h e f =
-    let P : ℕ → Type 0 = λ m. All (λ (x : Filed). x.row < m) filed in
-    let Q : List Filed → Type 0 = λ l. All (λ (x : Filed). x.row < count_of g) l in
-    subst P (sym f) (subst Q (sym e) (edges_filed_inside g q h))

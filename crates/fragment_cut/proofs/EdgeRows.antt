@@ -11,7 +11,7 @@ use Rattle.graph_core.specs.declared.query.Query.{Query}
 use Rattle.graph_core.specs.declared.query.Query.TheVariants.{Dist, Label, Reach, Sim}
 use Rattle.graph_core.specs.Digraph.{Digraph, count_of, edge_le, IsGraph}
 use Rattle.graph_core.proofs.GraphLemmas.{Rises, RisesFrom, rises-sorted}
-use Rattle.fragment_cut.specs.Filing.{Filed, reading_of, filed_under, rows_under, table, filed_by, by_source, by_target, turned, reads_table, readers_table, all_turned}
+use Rattle.fragment_cut.specs.Filing.{Filed, reading_of, filed_under, rows_under, table, by_source, by_target, reads_table, readers_table, all_turned}
 use Rattle.fragment_cut.proofs.FiledRows.{SplitAt, split_more, row_between}
 use Rattle.fragment_cut.proofs.SortedFiled.{is_less, AreSorted, rows_rise, table_is, map_same, same_under}
 use Rattle.fragment_cut.proofs.InOrder.{sorted_same}
@@ -19,7 +19,7 @@ use Rattle.graph_core.proofs.Sums.{sum-map, sum-flat_map, sum-same, sum_one}
 use Rattle.graph_core.specs.Fragments.{sorted_readings}
 use Rattle.std.specs.List.{range_with_len}
 use Rattle.std.proofs.lemmas.List.Sums.{sum_by-cons}
-use Rattle.fragment_cut.proofs.EdgeFiles.{reads_table_is}
+use Rattle.fragment_cut.proofs.EdgeFiles.{filed_by, turned, reads_table_is}
 use Rattle.fragment_cut.proofs.Turning.{readers_table_is}
 use Rattle.fragment_cut.proofs.TurnedTables.{turned_table_is, turned_inside}
 use Rattle.std.proofs.lemmas.List.Elements.{All-map}

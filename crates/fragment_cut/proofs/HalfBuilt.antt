@@ -9,9 +9,9 @@ use Rattle.graph_core.specs.Digraph.{Digraph, count_of, IsGraph}
 use Rattle.graph_core.specs.Graphs.{IsJob}
 use Rattle.graph_core.specs.declared.query.Query.{Query}
 use Rattle.graph_core.specs.Fragments.{owned_of, mirrors_of, places_of, readings_of, readers_of, sorted_readings, StandsAt}
-use Rattle.fragment_cut.specs.Filing.{Filed, filed_under, filed_by, table, rows_under, reads_table, filed_rows, with_place, all_turned}
+use Rattle.fragment_cut.specs.Filing.{Filed, filed_under, table, rows_under, reads_table, filed_rows, all_turned}
 use Rattle.fragment_cut.specs.Halves.{HalfLists, half_of}
-use Rattle.fragment_cut.proofs.EdgeFiles.{reads_table_is, edges_filed_placed}
+use Rattle.fragment_cut.proofs.EdgeFiles.{filed_by, with_place, reads_table_is, edges_filed_placed}
 use Rattle.fragment_cut.proofs.Marked.{places_listed}
 use Rattle.fragment_cut.proofs.Placing.{filed_owned, filed_placed, readings_are, readers_are, every-sorted}
 use Rattle.fragment_cut.proofs.TurnedTables.{turned_table_is, turned_inside, under_every}

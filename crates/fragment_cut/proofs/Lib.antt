@@ -9,6 +9,8 @@ pub mod Counted
 pub mod Filled
 pub mod Placing
 pub mod TurnedTables
+pub mod MergedRows
+pub mod EdgeEnds
 pub mod PlacedRows
 pub mod Marked
 pub mod OnlyFragment

@@ -14,7 +14,8 @@ use Rattle.graph_core.specs.Graphs.{count_of, IsJob}
 use Rattle.graph_core.specs.Queries.{Read, reads_of}
 use Rattle.graph_core.specs.Fragments.{owner, numbers_below, owned_of, mirrors_of, places_of, place_of, is_read_in, readings_of, readers_of, sorted_readings, insert_reading, comes_before, StandsAt}
 use Rattle.graph_core.proofs.Lists.{contains_here, contains_later}
-use Rattle.fragment_cut.specs.Filing.{Filed, reading_of, filed_under, table, reading_at, reads_table, file_under, filed_rows, with_place, turned}
+use Rattle.fragment_cut.specs.Filing.{Filed, reading_of, filed_under, table, reading_at, reads_table, file_under, filed_rows}
+use Rattle.fragment_cut.proofs.EdgeFiles.{with_place, turned}
 use Rattle.graph_core.proofs.Sums.{sum-map, sum-flat_map, sum-same, sum-zero, sum_one, sum_range_same, sum_range_one, by_places, sum_by_places, sum_by-sorted_readings}
 use Rattle.graph_core.proofs.FragmentPlaces.{places_once, places_inside, read_stands, place_is, owned_placed}
 use Rattle.fragment_cut.proofs.InOrder.{SameSums, sorted_same}
@@ -232,10 +233,6 @@ module _ (job : Job) (is : IsJob job) (i : ℕ) (small : i < job.settings.fragme
       let R : Reading → Type 0 = λ r. Q (file_under p r) in
       subst (λ row. AllByRecursion Q (map (file_under p) row)) (sym (reads-row job is i small p m2))
       (every-map Q (file_under p) (sorted_readings (map reading_at reads)) (every-sorted R (map reading_at reads) (every-map R reading_at reads (every_from (λ r. R (reading_at r)) reads (λ r c. h p r m2 c)))))))
-
-  pub filed_inside : All (λ (e : Filed). e.place < count_of job.graph) (filed_rows (owned_of job i) (reads_table job.graph job.query) (length (owned_of job i)))
-  filed_inside = every-filed (λ e. e.place < count_of job.graph) (λ p r h c.
-      let s = read_stands job is i small p (slice_index (owned_of job i) p) r (h, refl) c in places_inside job is i small s.0 r.vertex s.1)
 
   pub filed_owned : All (λ (e : Filed). e.row < length (owned_of job i)) (filed_rows (owned_of job i) (reads_table job.graph job.query) (length (owned_of job i)))
   filed_owned = every-filed (λ e. e.row < length (owned_of job i)) (λ p r h c. h)

@@ -1,33 +1,38 @@
--- The rows of all mirrors, filed under their vertices, are the routes.
-use Rattle.std.proofs.Common.{◌≡◌, ◌≢◌, ℕ, zero, suc, ◌+◌, ◌<◌, ◌≤◌, Bool, true, false, not, ◌&&◌, cond, ◌==◌, List, [], ◌∷◌, ◌++◌, length, map, filter, flat_map, slice_index, get_or, Option, Some, None, refl, ◌∙◌, sym, ap, inl, inr, arith, eqb-true, eq-eqb}
-use Rattle.std.specs.Prelude.{All, sum_by, nat_lt, option_to_list, position}
+-- The rows of all mirrors, turned round, are the routes.
+use Rattle.std.proofs.Common.{◌≡◌, ◌≢◌, ℕ, zero, suc, ◌+◌, ◌<◌, ◌≤◌, ◌^◌, Bool, true, false, not, ◌&&◌, cond, ◌==◌, List, [], ◌∷◌, ◌++◌, length, map, filter, flat_map, slice_index, get_or, Option, Some, None, refl, ◌∙◌, sym, ap, inl, inr, arith, eqb-true, eq-eqb}
+use Rattle.std.specs.Prelude.{All, nat_lt, option_to_list, position}
 use Rattle.std.specs.List.{AllByRecursion, range_with_len, position_or_len}
 use Rattle.std.proofs.lemmas.Bool.{ne_eqb, eqb-false, cases_eq}
 use Rattle.std.proofs.lemmas.Bool.Decides.{nat_tests}
-use Rattle.std.proofs.lemmas.List.{map-append, append-nil, append_assoc, get_or_default}
+use Rattle.std.proofs.lemmas.List.{map-append, get_or_default}
 use Rattle.std.proofs.lemmas.List.FromFn.{map-range_with_len_more, get_or-map-range_with_len, length-map-range_with_len}
-use Rattle.std.proofs.lemmas.List.Concat.{flat_map-append}
+use Rattle.std.proofs.lemmas.Simd.{map-map}
 use Rattle.std.proofs.lemmas.List.Elements.{All-from_recursion, recursion_from_All}
 use Rattle.std.proofs.lemmas.List.Quantifiers.{position-Some}
 use Rattle.std.proofs.lemmas.List.Sums.{fails_before_first}
 use Rattle.graph_core.specs.declared.job.Job.{Job}
 use Rattle.graph_core.specs.declared.fragment.Reading.{Reading}
 use Rattle.graph_core.specs.declared.fragment.Route.{Route}
-use Rattle.graph_core.specs.Graphs.{count_of}
-use Rattle.graph_core.specs.Fragments.{owner, numbers_below, owned_of, mirrors_of, is_read_in, route_to, routes_of, sorted_readings}
+use Rattle.graph_core.specs.Graphs.{count_of, IsJob}
+use Rattle.graph_core.specs.Fragments.{owner, numbers_below, owned_of, mirrors_of, is_read_in, route_to, routes_of}
 use Rattle.graph_core.proofs.Cutting as Cutting
-use Rattle.fragment_cut.specs.Filing.{Filed, reading_of, filed_under, table}
+use Rattle.fragment_cut.specs.Filing.{Filed, reading_of, filed_under, rows_under, turned_under, turned_entries, all_turned}
 use Rattle.fragment_cut.specs.Owners.{StandOnce}
-use Rattle.fragment_cut.specs.Routing.{filed_mirror, filed_mirrors, route_of, reading_to, routes_table, routes_in}
-use Rattle.fragment_cut.proofs.InOrder.{goes, Rises, RisesFrom, rising_is_sorted}
+use Rattle.fragment_cut.specs.Routing.{mirror_reading, mirror_row, mirror_rows, route_of, reading_to, routes_table, routes_in}
 use Rattle.fragment_cut.proofs.SortedFiled.{map_same}
 use Rattle.fragment_cut.proofs.EdgeFiles.{under-append}
 use Rattle.fragment_cut.specs.Halves.{HalfLists, half_of}
-use Rattle.fragment_cut.proofs.Pieces.{numbers_more}
 use Rattle.fragment_cut.proofs.Placing.{every-rows}
 use Rattle.fragment_cut.proofs.EdgeFiles.{all_at}
 
 -- ---- one fragment
+
+-- mirror m of fragment k, filed under its vertex
+abbrev filed_mirror : ℕ → List ℕ → ℕ → Filed
+filed_mirror k mirrors m = turned_under k (mirror_reading mirrors m)
+
+abbrev filed_mirrors : ℕ → List ℕ → List Filed
+filed_mirrors k mirrors = map (filed_mirror k mirrors) (numbers_below (length mirrors))
 
 -- no entry of a run belongs to this row
 under_none : (h : ℕ → Filed) (v a n : ℕ) → ((k : ℕ) → a ≤ k → k < a + n → (h k).row ≢ v) → filed_under (map h (range_with_len a n)) v ≡ []
@@ -80,49 +85,41 @@ module _ (job : Job) (v : ℕ) where
       ∙ ap (λ l. map reading_to (route_to job v a) ++ l) (routes_under (a + 1) n)
       ∙ sym (map-append reading_to (route_to job v a) (flat_map (route_to job v) (range_with_len (a + 1) n)))
 
-  -- routes rise by fragment
-  below_goes : (x y : Reading) → x.place < y.place → goes x y
-  below_goes x y h = grind (arith, nat_tests)
+-- the mirrors, each filed under its vertex
+module _ (job : Job) where
+  abbrev n : ℕ
+  n = job.settings.fragments
 
-  rises_after : (x : Reading) (a n : ℕ) → x.place < a → RisesFrom x (map reading_to (flat_map (route_to job v) (range_with_len a n)))
-  rises_after x a zero h = tt
-  rises_after x a (suc n) h = step (position (λ u. u == v) (mirrors_of job a)) (rises_after x (a + 1) n (omega (arith, h))) (λ m. rises_after (record { place = a; weight = m }) (a + 1) n (omega arith))
-    where
-      step : (o : Option ℕ) → RisesFrom x (map reading_to (flat_map (route_to job v) (range_with_len (a + 1) n))) → ((m : ℕ) → RisesFrom (record { place = a; weight = m }) (map reading_to (flat_map (route_to job v) (range_with_len (a + 1) n))))
-          → RisesFrom x (map reading_to (map (λ m. record { fragment = a; mirror = m }) (option_to_list o) ++ flat_map (route_to job v) (range_with_len (a + 1) n)))
-      step None past here = past
-      step (Some m) past here = (below_goes x (record { place = a; weight = m }) h, here m)
+  abbrev of_fragment : ℕ → List Filed
+  of_fragment k = filed_mirrors k (mirrors_of job k)
 
-  routes_rise : (a n : ℕ) → Rises (map reading_to (flat_map (route_to job v) (range_with_len a n)))
-  routes_rise a zero = tt
-  routes_rise a (suc n) = step (position (λ u. u == v) (mirrors_of job a)) (routes_rise (a + 1) n) (λ m. rises_after (record { place = a; weight = m }) (a + 1) n (omega arith))
-    where
-      step : (o : Option ℕ) → Rises (map reading_to (flat_map (route_to job v) (range_with_len (a + 1) n))) → ((m : ℕ) → RisesFrom (record { place = a; weight = m }) (map reading_to (flat_map (route_to job v) (range_with_len (a + 1) n))))
-          → Rises (map reading_to (map (λ m. record { fragment = a; mirror = m }) (option_to_list o) ++ flat_map (route_to job v) (range_with_len (a + 1) n)))
-      step None past here = past
-      step (Some m) past here = here m
+  rows_len : length (mirror_rows job) ≡ n
+  rows_len = length-map-range_with_len (λ k. mirror_row (mirrors_of job k)) 0 n
 
-  routes-row : sorted_readings (filed_under (flat_map (λ k. filed_mirrors k (mirrors_of job k)) (numbers_below job.settings.fragments)) v) ≡ map reading_to (routes_of job v)
-  routes-row =
-      let rows = routes_under 0 job.settings.fragments in
-      sym (rising_is_sorted (map reading_to (routes_of job v)) (filed_under (flat_map (λ k. filed_mirrors k (mirrors_of job k)) (numbers_below job.settings.fragments)) v) (routes_rise 0 job.settings.fragments) (λ f. ap (λ (l : List Reading). sum_by f l) (sym rows)))
+  row_turned : (k : ℕ) → k < n → map (turned_under k) (get_or (mirror_rows job) k []) ≡ of_fragment k
+  row_turned k h =
+      ap (map (turned_under k)) (get_or-map-range_with_len (λ k. mirror_row (mirrors_of job k)) 0 n k k [] h (omega arith))
+      ∙ map-map (turned_under k) (mirror_reading (mirrors_of job k)) (numbers_below (length (mirrors_of job k)))
 
-pub routes_table_is : (job : Job) → table (flat_map (λ k. filed_mirrors k (mirrors_of job k)) (numbers_below job.settings.fragments)) (count_of job.graph) ≡ routes_table job
-routes_table_is job = map_same _ (λ v. map reading_to (routes_of job v)) (routes-row job) (numbers_below (count_of job.graph))
+  rows_turned : (a m : ℕ) → a + m ≤ n → flat_map (λ w. map (turned_under w) (get_or (mirror_rows job) w [])) (range_with_len a m) ≡ flat_map of_fragment (range_with_len a m)
+  rows_turned a zero h = refl
+  rows_turned a (suc m) h =
+      ap (λ l. l ++ flat_map (λ w. map (turned_under w) (get_or (mirror_rows job) w [])) (range_with_len (a + 1) m)) (row_turned a (omega (arith, h)))
+      ∙ ap (λ l. of_fragment a ++ l) (rows_turned (a + 1) m (omega (arith, h)))
 
--- ---- steps of the loops
+  mirrors_turned : all_turned (mirror_rows job) ≡ flat_map of_fragment (numbers_below n)
+  mirrors_turned = ap (turned_entries (mirror_rows job)) rows_len ∙ rows_turned 0 n (omega arith)
 
-pub mirrors_more : (k : ℕ) (mirrors : List ℕ) (first old new : List Filed) (m : ℕ) → new ≡ old ++ filed_mirror k mirrors m ∷ [] → old ≡ first ++ map (filed_mirror k mirrors) (numbers_below m) → new ≡ first ++ map (filed_mirror k mirrors) (numbers_below (m + 1))
-mirrors_more k mirrors first old new m e h =
-    e ∙ ap (λ l. l ++ filed_mirror k mirrors m ∷ []) h ∙ append_assoc first (map (filed_mirror k mirrors) (numbers_below m)) (filed_mirror k mirrors m ∷ [])
-    ∙ ap (λ l. first ++ l) (sym (map-range_with_len_more (filed_mirror k mirrors) 0 m m (omega arith)))
+-- ---- the tables
 
-pub halves_more : (job : Job) (k : ℕ) (mirrors : List ℕ) (old new : List Filed) → new ≡ old ++ filed_mirrors k mirrors → mirrors ≡ mirrors_of job k → old ≡ flat_map (λ k. filed_mirrors k (mirrors_of job k)) (numbers_below k)
-    → new ≡ flat_map (λ k. filed_mirrors k (mirrors_of job k)) (numbers_below (k + 1))
-halves_more job k mirrors old new e f h =
-    let F : ℕ → List Filed = λ k. filed_mirrors k (mirrors_of job k) in
-    e ∙ ap (λ l. l ++ filed_mirrors k mirrors) h ∙ ap (λ ms. flat_map F (numbers_below k) ++ filed_mirrors k ms) f
-    ∙ sym (ap (flat_map F) (numbers_more k) ∙ flat_map-append F (numbers_below k) (k ∷ []) ∙ ap (λ l. flat_map F (numbers_below k) ++ l) (append-nil (F k)))
+pub mirrors_more : (mirrors : List ℕ) (old new : List Reading) (m : ℕ) → new ≡ old ++ mirror_reading mirrors m ∷ [] → old ≡ map (mirror_reading mirrors) (numbers_below m) → new ≡ map (mirror_reading mirrors) (numbers_below (m + 1))
+mirrors_more mirrors old new m e h = e ∙ ap (λ l. l ++ mirror_reading mirrors m ∷ []) h ∙ sym (map-range_with_len_more (mirror_reading mirrors) 0 m m (omega arith))
+
+pub mirror_rows_more : (job : Job) (k : ℕ) (row : List Reading) (old new : List (List Reading)) → new ≡ old ++ row ∷ [] → row ≡ mirror_row (mirrors_of job k) → old ≡ map (λ k. mirror_row (mirrors_of job k)) (numbers_below k)
+    → new ≡ map (λ k. mirror_row (mirrors_of job k)) (numbers_below (k + 1))
+mirror_rows_more job k row old new e f h =
+    e ∙ ap (λ l. l ++ row ∷ []) h ∙ ap (λ r. map (λ k. mirror_row (mirrors_of job k)) (numbers_below k) ++ r ∷ []) f
+    ∙ sym (map-range_with_len_more (λ k. mirror_row (mirrors_of job k)) 0 k k (omega arith))
 
 pub half_at : (job : Job) (halves : List HalfLists) (k : ℕ) (half : HalfLists) → halves ≡ map (half_of job) (numbers_below job.settings.fragments) → k < job.settings.fragments → half ≡ get_or halves k half → half ≡ half_of job k
 half_at job halves k half e h r = r ∙ ap (λ l. get_or l k half) e ∙ get_or-map-range_with_len (half_of job) 0 job.settings.fragments k k half h (omega arith)
@@ -135,7 +132,7 @@ every_range : (Q : Filed → Type 0) (h : ℕ → Filed) (a n : ℕ) → ((k : �
 every_range Q h a zero q = tt
 every_range Q h a (suc n) q = (q a (omega arith) (omega arith), every_range Q h (a + 1) n (λ k l m. q k (omega (arith, l)) (omega (arith, m))))
 
-pub mirrors_filed_inside : (job : Job) → All (λ (e : Filed). e.row < count_of job.graph) (flat_map (λ k. filed_mirrors k (mirrors_of job k)) (numbers_below job.settings.fragments))
+mirrors_filed_inside : (job : Job) → All (λ (e : Filed). e.row < count_of job.graph) (flat_map (λ k. filed_mirrors k (mirrors_of job k)) (numbers_below job.settings.fragments))
 mirrors_filed_inside job =
     let Q : Filed → Type 0 = λ e. e.row < count_of job.graph in
     All-from_recursion Q (flat_map (λ k. filed_mirrors k (mirrors_of job k)) (numbers_below job.settings.fragments)) (every-rows Q (λ k. filed_mirrors k (mirrors_of job k)) 0 job.settings.fragments (λ k _ _.
@@ -143,11 +140,17 @@ mirrors_filed_inside job =
     let r = Cutting.passes (λ v. not (owner job v == k) && is_read_in job k v) 0 (count_of job.graph) m (slice_index (mirrors_of job k) m) (omega (arith, l), refl) in
     let x = r.2 in omega (arith, x))))
 
-pub filed_halves_inside : (job : Job) (filed : List Filed) (n : ℕ) → filed ≡ flat_map (λ k. filed_mirrors k (mirrors_of job k)) (numbers_below job.settings.fragments) → n ≡ count_of job.graph → All (λ (e : Filed). e.row < n) filed
-filed_halves_inside job filed n e f = all_at (λ (x : Filed). x.row) filed _ n (count_of job.graph) e f (mirrors_filed_inside job)
+module _ (job : Job) (rows : List (List Reading)) (count : ℕ) (e : rows ≡ mirror_rows job) (f : count ≡ count_of job.graph) where
+  pub mirrors_short : IsJob job → length rows < 2 ^ 32
+  mirrors_short is = let few = is.settings.fragments.1 in omega (arith, few, ap length e, rows_len job)
 
-pub routes_made : (job : Job) (filed : List Filed) (n : ℕ) → filed ≡ flat_map (λ k. filed_mirrors k (mirrors_of job k)) (numbers_below job.settings.fragments) → n ≡ count_of job.graph → table filed n ≡ routes_table job
-routes_made job filed n e f = ap (λ l. table l n) e ∙ ap (table (flat_map (λ k. filed_mirrors k (mirrors_of job k)) (numbers_below job.settings.fragments))) f ∙ routes_table_is job
+  pub mirrors_inside : All (λ (x : Filed). x.row < count) (all_turned rows)
+  mirrors_inside = all_at (λ (x : Filed). x.row) (all_turned rows) _ count (count_of job.graph) (ap all_turned e ∙ mirrors_turned job) f (mirrors_filed_inside job)
+
+  pub routes_made : rows_under (all_turned rows) count ≡ routes_table job
+  routes_made =
+      ap (λ l. rows_under l count) (ap all_turned e ∙ mirrors_turned job) ∙ ap (rows_under (flat_map (of_fragment job) (numbers_below job.settings.fragments))) f
+      ∙ map_same _ (λ v. map reading_to (routes_of job v)) (λ v. routes_under job v 0 job.settings.fragments) (numbers_below (count_of job.graph))
 
 -- ---- the routes of a fragment's vertices
 

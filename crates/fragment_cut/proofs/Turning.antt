@@ -4,17 +4,17 @@ use Rattle.std.specs.Prelude.{All, sum_by}
 use Rattle.std.specs.List.{range_with_len}
 use Rattle.std.proofs.lemmas.Bool.{ne_eqb}
 use Rattle.std.proofs.lemmas.List.Sums.{sum_by-cons}
-use Rattle.std.proofs.lemmas.List.Elements.{All-head, All-tail, All-map}
+use Rattle.std.proofs.lemmas.List.Elements.{All-head, All-tail}
 use Rattle.graph_core.specs.declared.fragment.Reading.{Reading}
 use Rattle.graph_core.specs.declared.query.Query.{Query}
 use Rattle.graph_core.specs.Digraph.{Digraph, count_of, IsGraph}
 use Rattle.graph_core.specs.Queries.{Read, reads_of}
 use Rattle.graph_core.specs.Fragments.{sorted_readings}
 use Rattle.graph_core.proofs.Sums.{sum-map, sum-flat_map, sum-same, sum-zero, sum_one, sum_range_one}
-use Rattle.fragment_cut.specs.Filing.{Filed, reading_of, filed_under, table, filed_by, reading_at, readers_at, readers_table, turned}
+use Rattle.fragment_cut.specs.Filing.{Filed, reading_of, filed_under, table, reading_at, readers_at, readers_table}
 use Rattle.fragment_cut.proofs.InOrder.{SameSums, sorted_same}
 use Rattle.fragment_cut.proofs.SortedFiled.{sum_under, map_same}
-use Rattle.fragment_cut.proofs.EdgeFiles.{edges-files, edges_filed_inside, edges_filed_placed, all_at}
+use Rattle.fragment_cut.proofs.EdgeFiles.{filed_by, turned, edges-files, edges_filed_inside}
 
 pub sum-plus : {X : Type 0} (f g : X → ℕ) (xs : List X) → sum_by (λ x. f x + g x) xs ≡ sum_by f xs + sum_by g xs
 sum-plus f g [] = refl
@@ -79,10 +79,3 @@ module _ (g : Digraph) (q : Query) (is : IsGraph g) where
   pub readers_table_is : table (map turned filed_all) (count_of g) ≡ readers_table g q
   readers_table_is =
       map_same (λ u. sorted_readings (filed_under (map turned filed_all) u)) (λ u. sorted_readings (readers_at g q u)) (λ u. sorted_same (filed_under (map turned filed_all) u) (readers_at g q u) (turned-sums u)) (range_with_len 0 (count_of g))
-
-  pub readers_made : (filed : List Filed) (n : ℕ) → filed ≡ map turned filed_all → n ≡ count_of g → table filed n ≡ readers_table g q
-  readers_made filed n e f = ap (λ x. table x n) e ∙ ap (table (map turned filed_all)) f ∙ readers_table_is
-
-  pub turned_inside : (filed : List Filed) (n : ℕ) → filed ≡ map turned filed_all → n ≡ count_of g → All (λ e. e.row < n) filed
-  turned_inside filed n e f =
-      all_at (λ (x : Filed). x.row) filed (map turned filed_all) n (count_of g) e f (All-map (λ (x : Filed). x.row < count_of g) turned filed_all (edges_filed_placed g q is))

@@ -4,15 +4,18 @@ use Rattle.graph_core.specs.declared.job.Job.{Job}
 use Rattle.graph_core.specs.declared.fragment.Reading.{Reading}
 use Rattle.graph_core.specs.declared.fragment.Route.{Route}
 use Rattle.graph_core.specs.Graphs.{count_of}
-use Rattle.graph_core.specs.Fragments.{numbers_below, routes_of}
-use Rattle.fragment_cut.specs.Filing.{Filed}
+use Rattle.graph_core.specs.Fragments.{numbers_below, mirrors_of, routes_of}
 
--- mirror m of fragment k, filed under its vertex
-abbrev pub filed_mirror : ℕ → List ℕ → ℕ → Filed
-filed_mirror k mirrors m = record { row = slice_index mirrors m; place = k; weight = m }
+-- mirror m, as a reading of its vertex
+abbrev pub mirror_reading : List ℕ → ℕ → Reading
+mirror_reading mirrors m = record { place = slice_index mirrors m; weight = m }
 
-abbrev pub filed_mirrors : ℕ → List ℕ → List Filed
-filed_mirrors k mirrors = map (filed_mirror k mirrors) (numbers_below (length mirrors))
+abbrev pub mirror_row : List ℕ → List Reading
+mirror_row mirrors = map (mirror_reading mirrors) (numbers_below (length mirrors))
+
+-- the mirrors of each fragment
+abbrev pub mirror_rows : Job → List (List Reading)
+mirror_rows job = map (λ k. mirror_row (mirrors_of job k)) (numbers_below job.settings.fragments)
 
 -- a reading whose place is a fragment and whose weight the number of a mirror there
 abbrev pub route_of : Reading → Route

@@ -96,8 +96,8 @@ fn joined(
 /// The fragments of a job, as many as its settings say, by number. Each vertex is owned by one of them,
 /// at one place, and its readings there are what its equation reads.
 ///
-/// It takes passes over the edges, and two passes over the vertices a fragment; under `label` a sort of what is read, and
-/// with several fragments a sort of their mirrors. Tables are dense, so that no vertex or edge has memory of its own.
+/// It takes passes over the edges and the mirrors, two passes over the vertices a fragment, and no sort. Tables are dense,
+/// so that no vertex or edge has memory of its own.
 /// Where memory runs out, nothing is left.
 pub fn fragment(alloc: Global, job: &Job) -> Result<Vec<Fragment>, NoMemory>
     requires { IsJob job.now }

@@ -4,18 +4,18 @@
 //! whole graph stands in one of them, with what it reads there as often as there are edges. Programs
 //! evaluate fragments; they need nothing of the graph itself.
 //!
-//! A fragment's tables are read off those of the graph: its readings row by row, with places for vertices, and its
-//! readers by turning the readings round, which counts and takes no sort. What vertices read under `label`, and the
-//! routes, are filed under their rows and sorted. With one fragment the tables of the graph are those of the fragment.
+//! No table takes a sort, since the edges of a graph stand in order. Rows are turned round by counting: the edges by the
+//! vertices that they leave give those by the vertices that they reach, a fragment's readings its readers, and the
+//! mirrors of all fragments the routes. Under `label` both tables of the edges are merged row by row. A fragment's
+//! readings are rows of the graph, with places for vertices. With one fragment the tables of the graph are those of the
+//! fragment.
 #![tactic(auto)]
 
 mod counting;
 mod cutting;
 mod edge_rows;
-mod filed;
-mod filing;
 mod half;
-mod ordering;
+mod merging;
 mod owner;
 mod piece;
 mod reads;

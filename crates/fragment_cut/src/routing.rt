@@ -1,53 +1,55 @@
-ghost use Rattle.std.specs.Prelude.{◌≡◌, ◌<◌, ◌^◌, ◌++◌, map, flat_map, length, IfOk, OnOk, All, slice_index_or};
+ghost use Rattle.std.specs.Prelude.{◌≡◌, ◌<◌, ◌^◌, map, length, IfOk, OnOk, All};
 ghost use Rattle.graph_core.specs.Graphs.{IsJob};
-ghost use Rattle.graph_core.specs.Fragments.{numbers_below, mirrors_of};
+ghost use Rattle.graph_core.specs.Fragments.{numbers_below};
 ghost use Rattle.fragment_cut.specs.Halves.{half_of};
-ghost use Rattle.fragment_cut.specs.Routing.{filed_mirrors, route_of, routes_table, routes_in};
+ghost use Rattle.fragment_cut.specs.Routing.{mirror_row, mirror_rows, route_of, routes_table, routes_in};
 
-use crate::filed::table_of;
-use crate::filing::Filed;
+use crate::counting::turned_table;
 use crate::half::Half;
 use grape_port::NoMemory;
 use graph_core::{Job, Reading, Route, Rows};
 use std::alloc::Global;
 
-/// Adds the mirrors of a fragment, each filed under its vertex.
-fn file_mirrors(fragment: u32, mirrors: &[u32], filed: &mut Vec<Filed>) -> Result<(), NoMemory>
+/// Puts mirrors, as readings of a vertex and a mirror number, in place of what the row holds.
+fn read_mirrors(mirrors: &[u32], row: &mut Vec<Reading>) -> Result<(), NoMemory>
     requires { length mirrors.now < 2 ^ 32 }
-    ensures { OnOk result (filed.new.items ≡ filed.old.items ++ filed_mirrors fragment mirrors.now) }
+    ensures { OnOk result (row.new.items ≡ mirror_row mirrors.now) }
 {
+    row.clear();
     for mirror in 0..mirrors.len() as u32 {
-        filed.push(Filed {
-            row: mirrors[mirror as usize],
-            place: fragment,
+        row.push(Reading {
+            place: mirrors[mirror as usize],
             weight: mirror,
         })?;
     }
     Ok(())
 }
 
-/// The mirrors of all fragments, each filed under its vertex.
-fn filed_halves(alloc: Global, job: &Job, halves: &[Half]) -> Result<Vec<Filed>, NoMemory>
+/// A row a fragment: its mirrors, as readings of a vertex and a mirror number.
+fn mirror_rows(alloc: Global, job: &Job, halves: &[Half]) -> Result<Rows<Reading>, NoMemory>
     requires job { IsJob job.now }
     requires halves { halves.now ≡ map (half_of job.now) (numbers_below job.now.settings.fragments) }
-    ensures { IfOk result (λ filed. filed.items ≡ flat_map (λ k. filed_mirrors k (mirrors_of job.now k)) (numbers_below job.now.settings.fragments)) }
+    ensures { IfOk result (λ rows. rows ≡ mirror_rows job.now) }
 {
-    let mut filed = Vec::new(alloc);
+    let mut rows = Rows::with_capacity(alloc, halves.len(), 0)?;
+    let mut row = Vec::new(alloc);
     for fragment in 0..job.settings.fragments {
         let half = &halves[fragment as usize];
-        file_mirrors(fragment, half.mirrors(), &mut filed)?;
+        read_mirrors(half.mirrors(), &mut row)?;
+        rows.push_row(&row)?;
     }
-    Ok(filed)
+    Ok(rows)
 }
 
-/// For each vertex its mirrors, as readings of a fragment's number and a mirror number.
+/// For each vertex its mirrors, as readings of a fragment's number and a mirror number, in order of the fragments.
+/// It takes two passes over the mirrors.
 pub fn routes_table(alloc: Global, job: &Job, halves: &[Half]) -> Result<Rows<Reading>, NoMemory>
     requires job { IsJob job.now }
     requires halves { halves.now ≡ map (half_of job.now) (numbers_below job.now.settings.fragments) }
     ensures { IfOk result (λ routes. routes ≡ routes_table job.now) }
 {
-    let mut filed = filed_halves(alloc, job, halves)?;
-    table_of(alloc, &mut filed, job.graph.count())
+    let rows = mirror_rows(alloc, job, halves)?;
+    turned_table(alloc, &rows, job.graph.count())
 }
 
 /// Puts these readings as routes in place of what the row holds.

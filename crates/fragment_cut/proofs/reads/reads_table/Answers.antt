@@ -1,4 +1,6 @@
-use Rattle.std.proofs.Common.{◌≡◌, List, subst}
+use Rattle.std.proofs.Common.{◌≡◌, List, sym, subst}
+use Rattle.graph_core.specs.declared.query.Query.{Query}
+use Rattle.fragment_cut.specs.Filing.{reads_table}
 use Rattle.std.specs.Prelude.{IfOk}
 use Rattle.graph_core.specs.declared.fragment.Reading.{Reading}
 use Rattle.fragment_cut.proofs.EdgeRows.{dist_reads, reach_reads, sim_reads}
@@ -18,3 +20,8 @@ pub returns-in-Reach : goal.returns-in-Reach
 returns-in-Reach c =
     let job = c.args.job.now in
     subst (λ (t : List (List Reading)). IfOk c.sources_table-in-Reach.result (λ made. made ≡ t)) (reach_reads job.graph c.requires job.query c.in-Reach.field-0 c.in-Reach.is) c.sources_table-in-Reach.ensures
+
+pub returns-in-Label : goal.returns-in-Label
+returns-in-Label c =
+    let job = c.args.job.now in
+    subst (λ (q : Query). IfOk c.ends_table.result (λ made. made ≡ reads_table job.graph q)) (sym c.in-Label.is) c.ends_table.ensures
