@@ -261,13 +261,12 @@ fn run_on<R: Threads + Wait + Sync + AllocGlobal>(
 #[test]
 fn answers(rt: HostRuntime) -> Result<(), Fail> {
     for (text, want) in answer_table() {
-        let byte_by_byte = run_of(&rt, "run", text, 1, [0, 0, 0])?;
-        assert_eq!(rt; byte_by_byte.status, Status::Done, "of {text:?}");
-        assert_eq!(rt; byte_by_byte.out.bytes(), want, "of {text:?}");
-        let at_once = run_of(&rt, "run", text, 100_000, [0, 0, 0])?;
-        assert_eq!(rt; at_once.status, Status::Done, "of {text:?}");
-        assert_eq!(rt; at_once.out.bytes(), want, "of {text:?}");
-        assert!(rt; at_once.note.bytes().is_empty());
+        for most in [1, 7, 100_000] {
+            let run = run_of(&rt, "run", text, most, [0, 0, 0])?;
+            assert_eq!(rt; run.status, Status::Done, "of {text:?}");
+            assert_eq!(rt; run.out.bytes(), want, "of {text:?}");
+            assert!(rt; run.note.bytes().is_empty());
+        }
     }
     Ok(())
 }
@@ -298,15 +297,14 @@ fn answers_on_fragments(rt: HostRuntime) -> Result<(), Fail> {
 #[test]
 fn bad_inputs(rt: HostRuntime) -> Result<(), Fail> {
     for (text, line, why, end) in bad_table() {
-        let run = run_of(&rt, "run", text, 7, [0, 0, 0])?;
-        assert_eq!(rt; run.status, bad(line, why), "of {text:?}");
-        assert!(rt; run.out.bytes().is_empty());
-        let note = joined(rt.alloc(), b"grape: input line ", end)?;
-        assert_eq!(rt;
-            run.note.bytes(),
-            joined(rt.alloc(), &note, b"\n")?.as_slice(),
-            "of {text:?}"
-        );
+        let front = joined(rt.alloc(), b"grape: input line ", end)?;
+        let note = joined(rt.alloc(), &front, b"\n")?;
+        for most in [1, 7] {
+            let run = run_of(&rt, "run", text, most, [0, 0, 0])?;
+            assert_eq!(rt; run.status, bad(line, why), "of {text:?}");
+            assert!(rt; run.out.bytes().is_empty());
+            assert_eq!(rt; run.note.bytes(), note.as_slice(), "of {text:?}");
+        }
     }
     Ok(())
 }

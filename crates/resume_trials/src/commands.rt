@@ -1,5 +1,5 @@
 //! Commands on a disk in memory, and what they leave.
-ghost use Rattle.std.specs.Prelude.{◌≡◌, IfOk, vec_len};
+ghost use Rattle.std.specs.Prelude.{◌≡◌, ◌≤◌, IfOk, vec_len};
 
 use delay_stretch::{Calm, Pacer};
 use grape_disk::MemDisk;
@@ -10,6 +10,9 @@ use std::alloc::Global;
 use std::process::Abort;
 use std::sync::Wait;
 use std::thread::Threads;
+
+/// No input of these trials is longer, but where a trial says so.
+const WHOLE: usize = 4096;
 
 /// What a command left.
 #[derive(Drop)]
@@ -37,22 +40,26 @@ pub(crate) fn command<R: Threads + Wait + Sync + AllocGlobal>(
     text: &[u8],
     disk: &mut MemDisk,
 ) -> Result<Left, NoMemory> {
-    command_of(rt, &[word], text, disk)
+    command_of(rt, &[word], text, WHOLE, disk)
 }
 
-/// A command of these words with this input, on this disk. Its pacers add no turns.
+/// A command of these words with this input, of which a read gives at most so many bytes, on this disk. Its pacers add no
+/// turns.
 pub(crate) fn command_of<R: Threads + Wait + Sync + AllocGlobal>(
     rt: &R,
     asked: &[&str],
     text: &[u8],
+    most: usize,
     disk: &mut MemDisk,
-) -> Result<Left, NoMemory> {
+) -> Result<Left, NoMemory>
+    requires { 1 ≤ most }
+{
     let alloc = rt.alloc();
     let mut words = Words::new(alloc);
     for word in asked {
         words.push(word)?;
     }
-    let mut input = MemSource::new(Vec::from_slice(alloc, text)?, 4096, Vec::new(alloc));
+    let mut input = MemSource::new(Vec::from_slice(alloc, text)?, most, Vec::new(alloc));
     let mut out = MemSink::new(alloc, 4096, 4096, Vec::new(alloc))?;
     let mut note = MemSink::new(alloc, 4096, 4096, Vec::new(alloc))?;
     let pacers = calm_pacers(alloc)?;

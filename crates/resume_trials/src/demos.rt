@@ -95,9 +95,7 @@ fn summed<R: Abort + Threads + Wait + Sync + AllocGlobal>(
     let totals = totals_in(left.out.bytes());
     let line = format!(in alloc;
         "summary dist {VERTICES} reached {} sum {} greatest {}\n",
-        totals.0,
-        totals.1,
-        totals.2
+        totals.0, totals.1, totals.2
     )?;
     Ok(line)
 }
@@ -110,7 +108,7 @@ fn demo<R: Abort + Threads + Wait + Sync + AllocGlobal>(
 ) -> Result<Left, NoMemory> {
     let alloc = rt.alloc();
     let mut disk = disk_of(alloc, b"bytes")?;
-    let left = command_of(rt, &["demo", vertices, number], b"1 2 3 4\n", &mut disk)?;
+    let left = command_of(rt, &["demo", vertices, number], b"1 2 3 4\n", 7, &mut disk)?;
     assert_eq!(rt; disk.calls(), 0);
     assert!(rt; holds(alloc, &disk, b"bytes")?);
     Ok(left)

@@ -44,7 +44,7 @@ fn fail_each<R: Abort + Threads + Wait + Sync + AllocGlobal>(
         check_disk_fault(rt, &left);
         assert_eq!(rt; disk.calls(), call);
         let last = last_kept(&left).unwrap_or(epoch);
-        resume_each(rt, detour(), &disk, last, detour_answer())?;
+        resume_each(rt, detour(), &disk, last, detour_answer(), 4096)?;
     }
     panic!(rt; "no command was done")
 }

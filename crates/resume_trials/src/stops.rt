@@ -1,6 +1,10 @@
 //! Runs that are stopped at each call of the disk, and go on from what a crash may leave.
 
-use crate::commands::{Left, check_disk_fault, check_done, command, last_kept, start_of};
+ghost use Rattle.std.specs.Prelude.{◌≤◌};
+
+use crate::commands::{
+    Left, check_disk_fault, check_done, command, command_of, last_kept, start_of,
+};
 use crate::disks::{IMAGES, disk_of, image_by, stopping};
 use crate::inputs::{detour, detour_answer, drawn, query_table, text_of};
 use grape_disk::MemDisk;
@@ -16,7 +20,7 @@ const MANY_CALLS: u64 = 1000;
 
 const FOUR_LANES: &str = "fragments 4\nlanes 4\npolicy bsp\n";
 
-/// Stops where a resume on these bytes isn't done with this answer, or begins neither at the snapshot of the last epoch
+/// Stops where a resume on these bytes, whose source gives at most so many bytes a read, isn't done with this answer, or begins neither at the snapshot of the last epoch
 /// that was kept nor at the next one. Says at which epoch it begins.
 pub(crate) fn resume_from<R: Abort + Threads + Wait + Sync + AllocGlobal>(
     rt: &R,
@@ -24,9 +28,12 @@ pub(crate) fn resume_from<R: Abort + Threads + Wait + Sync + AllocGlobal>(
     bytes: &[u8],
     last: u64,
     want: &[u8],
-) -> Result<u64, NoMemory> {
+    most: usize,
+) -> Result<u64, NoMemory>
+    requires { 1 ≤ most }
+{
     let mut disk = disk_of(rt.alloc(), bytes)?;
-    let left = command(rt, "resume", text, &mut disk)?;
+    let left = command_of(rt, &["resume"], text, most, &mut disk)?;
     check_done(rt, &left, want);
     let start = start_of(&left).unwrap_or(u64::MAX);
     let next = last.saturating_add(1);
@@ -41,11 +48,14 @@ pub(crate) fn resume_each<R: Abort + Threads + Wait + Sync + AllocGlobal>(
     disk: &MemDisk,
     last: u64,
     want: &[u8],
-) -> Result<u64, NoMemory> {
+    most: usize,
+) -> Result<u64, NoMemory>
+    requires { 1 ≤ most }
+{
     let mut resumed = 0_u64;
     for number in 0..IMAGES {
         let image = image_by(rt.alloc(), disk, number)?;
-        if resume_from(rt, text, &image, last, want)? > 0 {
+        if resume_from(rt, text, &image, last, want, most)? > 0 {
             resumed = resumed.saturating_add(1);
         }
     }
@@ -57,9 +67,12 @@ fn stopped_at<R: Threads + Wait + Sync + AllocGlobal>(
     rt: &R,
     text: &[u8],
     stop: u64,
-) -> Result<(Left, MemDisk), NoMemory> {
+    most: usize,
+) -> Result<(Left, MemDisk), NoMemory>
+    requires { 1 ≤ most }
+{
     let mut disk = stopping(rt.alloc(), &[], stop)?;
-    let left = command(rt, "run", text, &mut disk)?;
+    let left = command_of(rt, &["run"], text, most, &mut disk)?;
     Ok((left, disk))
 }
 
@@ -69,17 +82,20 @@ fn stop_at_each<R: Abort + Threads + Wait + Sync + AllocGlobal>(
     rt: &R,
     text: &[u8],
     want: &[u8],
-) -> Result<u64, NoMemory> {
+    most: usize,
+) -> Result<u64, NoMemory>
+    requires { 1 ≤ most }
+{
     let mut resumed = 0_u64;
     for stop in 1..MANY_CALLS {
-        let (left, disk) = stopped_at(rt, text, stop)?;
+        let (left, disk) = stopped_at(rt, text, stop, most)?;
         if left.finish.status == Status::Done {
             check_done(rt, &left, want);
             return Ok(resumed);
         }
         check_disk_fault(rt, &left);
         let last = last_kept(&left).unwrap_or(0);
-        let more = resume_each(rt, text, &disk, last, want)?;
+        let more = resume_each(rt, text, &disk, last, want, most)?;
         resumed = resumed.saturating_add(more);
     }
     panic!(rt; "no run was done")
@@ -87,8 +103,10 @@ fn stop_at_each<R: Abort + Threads + Wait + Sync + AllocGlobal>(
 
 #[test]
 fn a_worked_run_goes_on_from_each_stop(rt: HostRuntime) -> Result<(), Fail> {
-    let resumed = stop_at_each(&rt, detour(), detour_answer())?;
-    assert!(rt; resumed > 0);
+    for most in [1, 7, 4096] {
+        let resumed = stop_at_each(&rt, detour(), detour_answer(), most)?;
+        assert!(rt; resumed > 0, "by {most} bytes");
+    }
     Ok(())
 }
 
@@ -122,7 +140,7 @@ fn check_drawn<R: Abort + Threads + Wait + Sync + AllocGlobal>(
         let mut resumed = 0_u64;
         for snapshot in [1, 2, 5] {
             let text = text_of(alloc, settings, snapshot, query, lines.as_str())?;
-            let more = stop_at_each(rt, text.as_bytes(), &want)?;
+            let more = stop_at_each(rt, text.as_bytes(), &want, 4096)?;
             resumed = resumed.saturating_add(more);
         }
         assert!(rt; resumed > 0, "of {query}");

@@ -1,6 +1,6 @@
 //! Worked commands on a state file.
 
-use crate::commands::{check_done, check_refused, command, start_of};
+use crate::commands::{check_done, check_refused, command, command_of, start_of};
 use crate::disks::{disk_of, holds};
 use crate::files::{alone_file, digest_of, file_without_phase};
 use crate::inputs::{alone, alone_answer, joined, joined_answer, repeated};
@@ -43,13 +43,15 @@ fn check_journal(rt: &impl Abort, finish: &Finish, events: &[Event]) {
 #[test]
 fn a_run_keeps_its_snapshot_in_the_file(rt: HostRuntime) -> Result<(), Fail> {
     let alloc = rt.alloc();
-    let mut disk = disk_of(alloc, &[])?;
-    let left = command(&rt, "run", alone(), &mut disk)?;
-    check_done(&rt, &left, alone_answer());
-    check_journal(&rt, &left.finish, &alone_events());
     let file = alone_file(alloc, alone())?;
     assert_eq!(rt; file.len(), 100);
-    assert!(rt; holds(alloc, &disk, &file)?);
+    for most in [1, 7, 4096] {
+        let mut disk = disk_of(alloc, &[])?;
+        let left = command_of(&rt, &["run"], alone(), most, &mut disk)?;
+        check_done(&rt, &left, alone_answer());
+        check_journal(&rt, &left.finish, &alone_events());
+        assert!(rt; holds(alloc, &disk, &file)?);
+    }
     Ok(())
 }
 
@@ -113,11 +115,13 @@ fn a_damaged_file_is_refused_at_its_place(rt: HostRuntime) -> Result<(), Fail> {
     let alloc = rt.alloc();
     let file = file_without_phase(alloc, joined())?;
     assert_eq!(rt; file.len(), 312);
-    let mut disk = disk_of(alloc, &file)?;
-    let left = command(&rt, "resume", joined(), &mut disk)?;
-    let status = Status::BadState { place: 197 };
-    check_refused(&rt, &left, status, b"grape: state damaged at 197\n");
-    assert!(rt; holds(alloc, &disk, &file)?);
+    for most in [1, 7, 4096] {
+        let mut disk = disk_of(alloc, &file)?;
+        let left = command_of(&rt, &["resume"], joined(), most, &mut disk)?;
+        let status = Status::BadState { place: 197 };
+        check_refused(&rt, &left, status, b"grape: state damaged at 197\n");
+        assert!(rt; holds(alloc, &disk, &file)?);
+    }
     Ok(())
 }
 
