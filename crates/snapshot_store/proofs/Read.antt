@@ -1,16 +1,19 @@
 -- What the steps of an open tell of the whole file.
-use Rattle.std.proofs.Common.{◌≡◌, ℕ, ◌+◌, ◌≤◌, Bool, true, false, not, ◌||◌, nat_lt, if◌then◌else◌, List, [], ◌∷◌, ◌++◌, map, replicate, slice_index, ◌==◌, take, drop, length, Option, Some, is_some, Result, Ok, Err, refl, sym, ap, ◌∙◌, subst, arith, length-append}
+use Rattle.std.proofs.Common.{◌≡◌, ℕ, zero, suc, ◌+◌, ◌*◌, ◌^◌, ◌<◌, ◌≤◌, Bool, true, false, not, ◌&&◌, ◌||◌, nat_le, nat_lt, if◌then◌else◌, List, [], ◌∷◌, ◌++◌, map, replicate, slice_index, ◌==◌, take, drop, length, Option, Some, is_some, Result, Ok, Err, refl, sym, ap, ◌∙◌, subst, arith, length-append}
 use Rattle.std.proofs.lemmas.Bool.Decides.{nat_tests}
-use Rattle.std.proofs.lemmas.List.{length-replicate, get_or-take, take_at, drop-drop}
-use Rattle.byteorder.specs.Endian.{big_bytes}
+use Rattle.std.proofs.lemmas.List.{length-replicate, get_or-take, get_or-drop, take_at, take-take}
+use Rattle.byteorder.specs.Endian.{big_bytes, big_from}
 use Rattle.byteorder.specs.Numbers.{length-bytes_high_first}
 use Rattle.grape_disk.specs.Images.{piece}
 use Rattle.token_cut.specs.Parts.{SnapshotParts}
 use Rattle.token_cut.specs.Shapes.{PartStarts, Starts, HaveShape, fresh_part}
 use Rattle.snapshot_file.specs.Lengths.{slot_length, file_length}
-use Rattle.snapshot_store.specs.State.{FileState, OPEN, NAME, front_bytes, is_open, first_wrong, damaged_if, header, by_header, is_first_newest, by_slot, by_slots, slot, slot_place}
+use Rattle.snapshot_store.specs.State.{FileState, OPEN, NAME, front_bytes, is_open, first_wrong, damaged_if, header, by_header, is_first_newest, by_slot, by_slots, slot, slot_place, epoch_of}
 use Rattle.snapshot_store.specs.State.FileState.{nothing, other}
 use Rattle.snapshot_store.specs.Opening.{SlotSays, SlotsSay}
+use Rattle.snapshot_store.specs.Reads.{Tells}
+use Rattle.snapshot_store.proofs.Assembled.{tells_within, tells_more, tells_behind, tells_one}
+use Rattle.snapshot_store.proofs.SlotRead.{body_in}
 use Rattle.snapshot_store.specs.declared.fault.StoreFault.{StoreFault}
 use Rattle.snapshot_store.specs.declared.fault.StoreFault.TheVariants.{Disk, Other, Damaged, NoMemory}
 use Rattle.std.specs.Result.{IsErrAnd}
@@ -51,8 +54,8 @@ module _ (shape : Starts) (digest : List ℕ) (size : ℕ) (front : List ℕ) wh
       not_less : (m n : ℕ) → n ≤ m → nat_lt m n ≡ false
       not_less m n high = grind (arith, nat_tests)
 
-pub open_front : (bytes : List ℕ) → slice_index bytes 0 ≡ OPEN → is_open (take 64 bytes) ≡ true
-open_front bytes is = tested (slice_index (take 64 bytes) 0) (get_or-take 64 bytes 0 0 (omega arith) ∙ is)
+pub open_front : (head : List ℕ) → slice_index head 0 ≡ OPEN → is_open head ≡ true
+open_front head is = tested (slice_index head 0) is
   where
     tested : (b : ℕ) → b ≡ OPEN → (b == OPEN) ≡ true
     tested b is = grind (arith, nat_tests)
@@ -74,42 +77,104 @@ second_of false x y is = refl
 
 -- ---- what the steps hand on
 
-slot_error : (state : FileState) (e : StoreFault) → SlotSays state (Err e) → SlotsSay state (Err e)
-slot_error state Disk says = absurd says
+pub slot_error : (state : FileState) (e : StoreFault) → SlotSays state (Err e) → SlotsSay state (Err e)
+slot_error state Disk says = tt
 slot_error state (Other kept here) says = absurd says
 slot_error state (Damaged place) says = says
 slot_error state NoMemory says = tt
 
-slots_handed : (state : FileState) (r : Result (Option SnapshotParts) StoreFault) (e : StoreFault) → IsErrAnd r (λ x. x ≡ e) → SlotsSay state (Err e) → SlotsSay state r
+pub slots_handed : (state : FileState) (r : Result (Option SnapshotParts) StoreFault) (e : StoreFault) → IsErrAnd r (λ x. x ≡ e) → SlotsSay state (Err e) → SlotsSay state r
 slots_handed state (Ok x) e is says = absurd is
 slots_handed state (Err x) e is says = subst (λ f. SlotsSay state (Err f)) (sym is) says
 
--- ---- what the slots that were cut from some bytes stand for
+-- ---- the first nine bytes of a slot, its gate and its epoch, decide which one a file stands for
 
-module _
-    (shape : Starts) (bytes behind rest zero one : List ℕ) (size : ℕ) (size_is : size ≡ slot_length shape) (behind_is : behind ≡ drop 64 bytes) (zero_is : zero ≡ take size behind) (rest_is : rest ≡ drop size behind) (one_is : one ≡ take size rest) where
-  first_slot : zero ≡ slot shape 0 bytes
-  first_slot =
-      let place : 64 ≡ slot_place shape 0 = omega arith in
-      zero_is ∙ ap (λ (n : ℕ). take n behind) size_is ∙ ap (take (slot_length shape)) behind_is ∙ ap (λ (n : ℕ). take (slot_length shape) (drop n bytes)) place
+same_number : (i n : ℕ) (xs ys : List ℕ) → ((j : ℕ) → j < i + n → slice_index xs j ≡ slice_index ys j) → big_from i n xs ≡ big_from i n ys
+same_number i zero xs ys same = refl
+same_number i (suc n) xs ys same =
+    ap (λ (b : ℕ). b * 256 ^ n + big_from (suc i) n xs) (same i (omega arith)) ∙ ap (λ (m : ℕ). slice_index ys i * 256 ^ n + m) (same_number (suc i) n xs ys (λ j low. same j (omega (arith, low))))
 
-  second_slot : one ≡ slot shape 1 bytes
-  second_slot =
-      let place : 64 + slot_length shape ≡ slot_place shape 1 = omega arith in
-      one_is ∙ ap (λ (n : ℕ). take n rest) size_is
-      ∙ ap (take (slot_length shape)) (rest_is ∙ ap (λ (n : ℕ). drop n behind) size_is ∙ ap (drop (slot_length shape)) behind_is ∙ drop-drop (slot_length shape) 64 bytes ∙ ap (λ (n : ℕ). drop n bytes) place)
+same_epoch : (bytes : List ℕ) → epoch_of (take 9 bytes) ≡ epoch_of bytes
+same_epoch bytes = same_number 0 8 (drop 1 (take 9 bytes)) (drop 1 bytes) (λ j low. get_or-drop 1 (take 9 bytes) j 0 ∙ get_or-take 9 bytes (1 + j) 0 (omega (arith, low)) ∙ sym (get_or-drop 1 bytes j 0))
 
-  both_are : by_slots shape (slot shape 0 bytes) (slot shape 1 bytes) ≡ by_slots shape zero one
-  both_are = ap (λ (l : List ℕ). by_slots shape l (slot shape 1 bytes)) (sym first_slot) ∙ ap (by_slots shape zero) (sym second_slot)
+same_open : (bytes : List ℕ) → is_open (take 9 bytes) ≡ is_open bytes
+same_open bytes = ap (λ (b : ℕ). b == OPEN) (get_or-take 9 bytes 0 0 (omega arith))
 
-  pub zero_at : is_first_newest zero one ≡ true → by_slot shape 0 zero ≡ by_slots shape (slot shape 0 bytes) (slot shape 1 bytes)
-  zero_at first = sym (both_are ∙ first_of (is_first_newest zero one) _ _ first)
+same_newest : (first second : List ℕ) → is_first_newest (take 9 first) (take 9 second) ≡ is_first_newest first second
+same_newest first second =
+    ap (λ (b : Bool). b && (not (is_open (take 9 second)) || nat_le (epoch_of (take 9 second)) (epoch_of (take 9 first)))) (same_open first)
+    ∙ ap (λ (b : Bool). is_open first && (not b || nat_le (epoch_of (take 9 second)) (epoch_of (take 9 first)))) (same_open second)
+    ∙ ap (λ (n : ℕ). is_open first && (not (is_open second) || nat_le n (epoch_of (take 9 first)))) (same_epoch second)
+    ∙ ap (λ (n : ℕ). is_open first && (not (is_open second) || nat_le (epoch_of second) n)) (same_epoch first)
 
-  pub one_at : is_first_newest zero one ≡ false → is_open one ≡ true → by_slot shape 1 one ≡ by_slots shape (slot shape 0 bytes) (slot shape 1 bytes)
-  one_at later opened = sym (both_are ∙ second_of (is_first_newest zero one) _ _ later ∙ first_of (is_open one) _ _ opened)
+nine_of : (shape : Starts) (k : ℕ) (file bytes : List ℕ) → piece (slot_place shape k) 9 file ≡ bytes → take 9 (slot shape k file) ≡ bytes
+nine_of shape k file bytes is = take-take 9 (slot_length shape) (drop (slot_place shape k) file) (omega arith) ∙ is
 
-  pub none_at : is_first_newest zero one ≡ false → is_open one ≡ false → by_slots shape (slot shape 0 bytes) (slot shape 1 bytes) ≡ nothing
-  none_at later closed = both_are ∙ second_of (is_first_newest zero one) _ _ later ∙ second_of (is_open one) _ _ closed
+pub second_nine : (shape : Starts) (size : ℕ) (file one : List ℕ) → size ≡ slot_length shape → one ≡ piece (64 + size) 9 file → piece (slot_place shape 1) 9 file ≡ one
+second_nine shape size file one size_is is =
+    let place : slot_place shape 1 ≡ 64 + size = omega (arith, size_is) in
+    ap (λ (a : ℕ). piece a 9 file) place ∙ sym is
 
-pub error_at : (a b : FileState) (r : Result (Option SnapshotParts) StoreFault) (e : StoreFault) → a ≡ b → IsErrAnd r (λ x. x ≡ e) → SlotSays a (Err e) → SlotsSay b r
-error_at a b r e same is says = slots_handed b r e is (slot_error b e (subst (λ s. SlotSays s (Err e)) same says))
+-- ---- what both slots stand for
+
+module _ (told : Option (List ℕ)) (shape : Starts) (zero one : List ℕ) (nine : length one ≡ 9) (read : (file : List ℕ) → told ≡ Some file → piece (slot_place shape 1) 9 file ≡ one) (result : Result (Option SnapshotParts) StoreFault) where
+  abbrev Says : List ℕ → Type 0
+  Says file = piece 64 9 file ≡ zero → SlotsSay (by_slots shape (slot shape 0 file) (slot shape 1 file)) result
+
+  zero_is : (file : List ℕ) → piece 64 9 file ≡ zero → take 9 (slot shape 0 file) ≡ zero
+  zero_is file is =
+      let place : slot_place shape 0 ≡ 64 = omega arith in
+      nine_of shape 0 file zero (ap (λ (a : ℕ). piece a 9 file) place ∙ is)
+
+  one_is : (file : List ℕ) → piece (slot_place shape 1) (length one) file ≡ one → piece (slot_place shape 1) 9 file ≡ one
+  one_is file is = ap (λ (n : ℕ). piece (slot_place shape 1) n file) (sym nine) ∙ is
+
+  newest : (file : List ℕ) → piece 64 9 file ≡ zero → piece (slot_place shape 1) (length one) file ≡ one → is_first_newest (slot shape 0 file) (slot shape 1 file) ≡ is_first_newest zero one
+  newest file first second =
+      sym (same_newest (slot shape 0 file) (slot shape 1 file)) ∙ ap (λ (l : List ℕ). is_first_newest l (take 9 (slot shape 1 file))) (zero_is file first)
+      ∙ ap (is_first_newest zero) (nine_of shape 1 file one (one_is file second))
+
+  opened : (file : List ℕ) → piece (slot_place shape 1) (length one) file ≡ one → is_open (slot shape 1 file) ≡ is_open one
+  opened file is = sym (same_open (slot shape 1 file)) ∙ ap is_open (nine_of shape 1 file one (one_is file is))
+
+  given : (file : List ℕ) → told ≡ Some file → piece (slot_place shape 1) (length one) file ≡ one
+  given file is = ap (λ (n : ℕ). piece (slot_place shape 1) n file) nine ∙ read file is
+
+  -- where a slot is read that tells this
+  abbrev SlotTells : Option (List ℕ) → ℕ → List ℕ → Result SnapshotParts StoreFault → Type 0
+  SlotTells now k epoch r = Tells now (slot_place shape k + 9) (slot_place shape k + slot_length shape) (λ file. piece (slot_place shape k + 1) 8 file ≡ epoch → SlotSays (by_slot shape k (slot shape k file)) r)
+
+  pub tells_first : (epoch : List ℕ) (r : Result SnapshotParts StoreFault) → epoch ≡ drop 1 zero → is_first_newest zero one ≡ true → ((state : FileState) → SlotSays state r → SlotsSay state result) → (now : Option (List ℕ)) → now ≡ told → SlotTells now 0 epoch r
+      → Tells told 73 (file_length shape) Says
+  tells_first epoch r epoch_is first hand now same tells =
+      let from = slot_place shape 0 + 9 in
+      let to = slot_place shape 0 + slot_length shape in
+      let P = λ (file : List ℕ). piece (slot_place shape 0 + 1) 8 file ≡ epoch → SlotSays (by_slot shape 0 (slot shape 0 file)) r in
+      tells_within told from (file_length shape) Says
+      (tells_behind told from to P (subst (λ (t : Option (List ℕ)). SlotTells t 0 epoch r) same tells) (slot_place shape 1) (file_length shape) one Says (omega arith) (omega arith) (omega (arith, nine)) given (λ file long second p zero_is_here.
+      let place : slot_place shape 0 ≡ 64 = omega arith in
+      let first_bytes = ap (λ (a : ℕ). piece a 9 file) place ∙ zero_is_here in
+      hand (by_slots shape (slot shape 0 file) (slot shape 1 file))
+      (subst (λ (state : FileState). SlotSays state r) (sym (first_of _ _ _ (newest file zero_is_here second ∙ first)))
+      (p (sym (body_in (slot_place shape 0) 8 file) ∙ ap (drop 1) first_bytes ∙ sym epoch_is)))))
+      73 (file_length shape) Says (omega arith) (omega arith) (λ file long says. says)
+
+  pub tells_second : (epoch : List ℕ) (r : Result SnapshotParts StoreFault) → epoch ≡ drop 1 one → is_first_newest zero one ≡ false → is_open one ≡ true → ((state : FileState) → SlotSays state r → SlotsSay state result) → (now : Option (List ℕ)) → now ≡ told → SlotTells now 1 epoch r
+      → Tells told 73 (file_length shape) Says
+  tells_second epoch r epoch_is later open_is hand now same tells =
+      let from = slot_place shape 1 + 9 in
+      let to = slot_place shape 1 + slot_length shape in
+      let P = λ (file : List ℕ). piece (slot_place shape 1 + 1) 8 file ≡ epoch → SlotSays (by_slot shape 1 (slot shape 1 file)) r in
+      tells_within told (slot_place shape 1) (file_length shape) Says
+      (tells_more told from to P (subst (λ (t : Option (List ℕ)). SlotTells t 1 epoch r) same tells) (slot_place shape 1) (file_length shape) one Says (omega (arith, nine)) (omega (arith, nine)) (omega arith) given (λ file long second p zero_is_here.
+      hand (by_slots shape (slot shape 0 file) (slot shape 1 file))
+      (subst (λ (state : FileState). SlotSays state r) (sym (second_of _ _ _ (newest file zero_is_here second ∙ later) ∙ first_of _ _ _ (opened file second ∙ open_is)))
+      (p (sym (body_in (slot_place shape 1) 8 file) ∙ ap (drop 1) (one_is file second) ∙ sym epoch_is)))))
+      73 (file_length shape) Says (omega arith) (omega arith) (λ file long says. says)
+
+  pub tells_neither : is_first_newest zero one ≡ false → is_open one ≡ false → ((state : FileState) → state ≡ nothing → SlotsSay state result) → Tells told 73 (file_length shape) Says
+  tells_neither later shut hand =
+      tells_within told (slot_place shape 1) (file_length shape) Says
+      (tells_one told (slot_place shape 1) (file_length shape) one Says (omega (arith, nine)) given (λ file long second zero_is_here.
+      hand (by_slots shape (slot shape 0 file) (slot shape 1 file)) (second_of _ _ _ (newest file zero_is_here second ∙ later) ∙ second_of _ _ _ (opened file second ∙ shut))))
+      73 (file_length shape) Says (omega arith) (omega arith) (λ file long says. says)

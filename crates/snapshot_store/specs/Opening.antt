@@ -45,6 +45,7 @@ HeaderSays digest says (Err NoMemory) = Unit {0}
 abbrev pub SlotSays : FileState → Result SnapshotParts StoreFault → Type 0
 SlotSays state (Ok snapshot) = state ≡ last snapshot
 SlotSays state (Err (Damaged place)) = state ≡ damaged place
+SlotSays state (Err Disk) = Unit {0}
 SlotSays state (Err NoMemory) = Unit {0}
 SlotSays state (Err _) = ⊥
 
@@ -53,5 +54,6 @@ abbrev pub SlotsSay : FileState → Result (Option SnapshotParts) StoreFault →
 SlotsSay state (Ok None) = state ≡ nothing
 SlotsSay state (Ok (Some snapshot)) = state ≡ last snapshot
 SlotsSay state (Err (Damaged place)) = state ≡ damaged place
+SlotsSay state (Err Disk) = Unit {0}
 SlotsSay state (Err NoMemory) = Unit {0}
 SlotsSay state (Err _) = ⊥

@@ -9,25 +9,22 @@ ghost use Rattle.snapshot_store.specs.Steps.{HasShutGate, ClosesFile, KeepsGate,
 use crate::steps::{close_gate, write_synced};
 use byteorder::{BigEndian, ByteOrder};
 use grape_disk::{Disk, Failed};
-use grape_port::NoMemory;
-use std::alloc::Global;
 
 // what names a state file, behind its gate
 const NAME_BYTES: [u8; 7] = [0x52, 0x41, 0x50, 0x45, 0x53, 0x54, 0x31];
 
 /// The header behind the file's gate, and the closed gate of the first slot.
-pub(crate) fn front_of(alloc: Global, size: u64, digest: &[u8; 32]) -> Result<Vec<u8>, NoMemory>
-    ensures bytes { IfOk result (λ front. front.items ≡ front_bytes size digest.now) }
+pub(crate) fn front_of(size: u64, digest: &[u8; 32]) -> [u8; 64]
+    ensures bytes { result ≡ front_bytes size digest.now }
 {
-    let mut number = [0; 8];
-    BigEndian::write_u64(&mut number, size);
-    let mut front = Vec::with_capacity(alloc, 64)?;
-    front.extend_from_slice(&NAME_BYTES)?;
-    front.extend_from_slice(digest)?;
-    front.extend_from_slice(&number)?;
-    front.extend_from_slice(&[0; 16])?;
-    front.extend_from_slice(&[0])?;
-    Ok(front)
+    let mut front = [0; 64];
+    let (name, behind) = front.split_at_mut(7);
+    name.copy_from_slice(&NAME_BYTES);
+    let (kept, behind) = behind.split_at_mut(32);
+    kept.copy_from_slice(digest);
+    let (number, _) = behind.split_at_mut(8);
+    BigEndian::write_u64(number, size);
+    front
 }
 
 /// Closes the file's gate. An empty file gets a closed one.

@@ -1,8 +1,9 @@
 ghost use Rattle.std.specs.Prelude.{◌≡◌, Some};
 ghost use Rattle.snapshot_store.specs.Faults.{fault_text};
-ghost use Rattle.snapshot_store.specs.declared.fault.StoreFault.TheVariants.{Disk as DiskFault, NoMemory as NoMemoryFault};
+ghost use Rattle.snapshot_store.specs.declared.fault.StoreFault.TheVariants.{Disk as DiskFault, Damaged as DamagedFault, NoMemory as NoMemoryFault};
 
 use grape_port::{Failed, NoMemory};
+use snapshot_file::Damaged;
 use std::error::Error;
 use std::fmt;
 
@@ -32,6 +33,16 @@ impl From<NoMemory> for StoreFault {
 
     fn from(_fault: NoMemory) -> StoreFault {
         StoreFault::NoMemory
+    }
+}
+
+impl From<Damaged> for StoreFault {
+    ghost from_gives = { λ damaged fault. fault ≡ DamagedFault damaged.place };
+
+    fn from(damaged: Damaged) -> StoreFault {
+        StoreFault::Damaged {
+            place: damaged.place,
+        }
     }
 }
 

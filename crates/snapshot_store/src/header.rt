@@ -8,24 +8,24 @@ use crate::create::front_of;
 use crate::fault::StoreFault;
 use crate::steps::OPEN;
 use snapshot_file::{file_len, slot_len};
-use std::alloc::Global;
 use token_cut::Shape;
 
-/// Whether the slots decide what a file stands for; it stands for nothing where they don't.
+/// Whether the slots decide what a file of that size stands for; it stands for nothing where they
+/// don't. The head is its first 64 bytes.
 pub(crate) fn check_header(
-    alloc: Global,
-    bytes: &[u8],
+    size: u64,
+    head: &[u8],
     shape: &Shape,
     digest: &[u8; 32],
 ) -> Result<bool, StoreFault>
     requires shape { IsShape shape.now }
-    requires long { 64 ≤ length bytes.now }
-    ensures { HeaderSays digest.now (by_header shape.now digest.now (length bytes.now) (take 64 bytes.now)) result }
+    requires size { 64 ≤ size }
+    requires head { length head.now ≡ 64 }
+    ensures { HeaderSays digest.now (by_header shape.now digest.now size head.now) result }
 {
-    if bytes[0] != OPEN {
+    if head[0] != OPEN {
         return Ok(false);
     }
-    let (head, _) = bytes.split_at(64);
     let (_, behind) = head.split_at(8);
     if first_wrong(digest, 8, behind).is_some() {
         return Err(StoreFault::Other {
@@ -33,10 +33,10 @@ pub(crate) fn check_header(
             here: *digest,
         });
     }
-    if (bytes.len() as u64) < file_len(shape) {
+    if size < file_len(shape) {
         return Ok(false);
     }
-    let front = front_of(alloc, slot_len(shape), digest)?;
+    let front = front_of(slot_len(shape), digest);
     let (expected, _) = front.split_at(63);
     let (_, named) = head.split_at(1);
     match first_wrong(expected, 1, named) {

@@ -17,6 +17,8 @@ mod body;
 mod create;
 mod fault;
 mod header;
+#[cfg(test)]
+mod long_tests;
 mod open;
 mod opened;
 mod slots;

@@ -1,8 +1,9 @@
-ghost use Rattle.std.specs.Prelude.{◌≡◌, ◌≢◌, ◌⊎◌, ◌≤◌, ℕ, List, length, Some, IsTrue, IsErrOf, IfOk, IfErr, OnOk};
+ghost use Rattle.std.specs.Prelude.{◌≡◌, ◌⊎◌, ◌≤◌, ℕ, min, List, length, take, Some, IsTrue, IsErrOf, IfOk, IfErr, OnOk, OnErr};
 ghost use Rattle.grape_port.specs.Ports.{Rose};
 ghost use Rattle.grape_disk.specs.Images.{AtRest, Same, Leaves};
 ghost use Rattle.token_cut.specs.Shapes.{IsShape};
 ghost use Rattle.snapshot_store.specs.Opening.{OpensAs, NamesBoth, IsFormed};
+ghost use Rattle.snapshot_store.specs.Reads.{Tells, Unwritten};
 ghost use Rattle.snapshot_store.specs.declared.fault.StoreFault.TheVariants.{Disk as DiskFault};
 
 use crate::body::new_piece;
@@ -11,15 +12,14 @@ use crate::header::check_header;
 use crate::opened::Opened;
 use crate::slots::read_slots;
 use crate::store::Store;
-use grape_disk::Disk;
-use grape_port::NoMemory;
-use snapshot_file::file_len;
+use grape_disk::{Disk, Failed};
 use std::alloc::Global;
 use token_cut::Shape;
 
 impl Store {
     /// Reads a file that a crash may have left. It writes nothing, and it syncs nothing: where
-    /// something is pending, sync the disk first.
+    /// something is pending, sync the disk first. It reads the body of one slot at most, through the
+    /// piece that the store keeps, and takes no memory beside that piece and the snapshot.
     ///
     /// `Other` comes where the file is another input's, and `Damaged` where it, or the slot that it
     /// stands for, has a byte that may not stand there.
@@ -51,43 +51,59 @@ impl Store {
         if size < 64 {
             return Ok(Opened::Nothing);
         }
-        let mut bytes = zeros(alloc, size.min(file_len(shape)) as usize)?;
-        disk.read_at(0, &mut bytes)?;
-        opened_from(alloc, &bytes, shape, digest)
+        let front = read_front(disk, size)?;
+        opened_from(alloc, disk, size, &front, shape, digest)
     }
 }
 
-fn zeros(alloc: Global, size: usize) -> Result<Vec<u8>, NoMemory>
-    ensures { IfOk result (λ bytes. length bytes.items ≡ size) }
+/// The first 64 bytes of a file, and 9 more where it has them: the gate and the epoch of the first slot.
+fn read_front<D: Disk>(disk: &mut D, size: u64) -> Result<[u8; 73], Failed>
+    requires long { 64 ≤ size }
+    requires size { (file : List ℕ) → D.content disk.old ≡ Some file → size ≡ length file }
+    ensures front { IfOk result (λ front. (file : List ℕ) → D.content disk.old ≡ Some file → take 73 file ≡ take (min size 73) front) }
+    ensures unwritten { Unwritten D.content D.images D.moment D.honest disk.old disk.new }
+    ensures cause { OnErr result (Rose (D.faults disk.old) (D.faults disk.new)) }
+    ensures no_fault { OnOk result (D.faults disk.new ≡ D.faults disk.old) }
 {
-    let bytes = vec![in alloc; 0; size]?;
-    Ok(bytes)
+    let mut front = [0; 73];
+    let (to, _) = front.split_at_mut(size.min(73) as usize);
+    disk.read_at(0, to)?;
+    Ok(front)
 }
 
-fn opened_from(
+/// What a file of that size with that front holds. The front has zeros where the file ends.
+fn opened_from<D: Disk>(
     alloc: Global,
-    bytes: &[u8],
+    disk: &mut D,
+    size: u64,
+    front: &[u8; 73],
     shape: &Shape,
     digest: &[u8; 32],
 ) -> Result<Opened, StoreFault>
     requires shape { IsShape shape.now }
-    requires long { 64 ≤ length bytes.now }
-    ensures answer { OpensAs shape.now digest.now bytes.now result }
+    requires long { 64 ≤ size }
+    requires size { (file : List ℕ) → D.content disk.old ≡ Some file → size ≡ length file }
+    ensures opens { Tells (D.content disk.old) (min size 73) size (λ file. length file ≡ size → take 73 file ≡ take (min size 73) front.now → OpensAs shape.now digest.now file result) }
     ensures names_both { NamesBoth digest.now result }
     ensures form { IsFormed shape.now result }
-    ensures no_disk { IfErr result (λ e. e ≢ DiskFault) }
+    ensures unwritten { Unwritten D.content D.images D.moment D.honest disk.old disk.new }
+    ensures disk_fault { IsErrOf result DiskFault → Rose (D.faults disk.old) (D.faults disk.new) }
+    ensures no_fault { OnOk result (D.faults disk.new ≡ D.faults disk.old) }
+    ensures other_fault { IfErr result (λ e. (e ≡ DiskFault) ⊎ (D.faults disk.new ≡ D.faults disk.old)) }
 {
-    if !check_header(alloc, bytes, shape, digest)? {
+    let (head, zero) = front.split_at(64);
+    if !check_header(size, head, shape, digest)? {
         return Ok(Opened::Nothing);
     }
-    let Some(snapshot) = read_slots(alloc, bytes, shape)? else {
+    let mut piece = new_piece(alloc)?;
+    let Some(snapshot) = read_slots(alloc, disk, zero, shape, &mut piece)? else {
         return Ok(Opened::Nothing);
     };
     let last = snapshot.epoch;
     let store = Store {
         digest: *digest,
         last,
-        piece: new_piece(alloc)?,
+        piece,
     };
     Ok(Opened::Last(store, snapshot))
 }

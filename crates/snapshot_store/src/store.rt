@@ -88,7 +88,7 @@ impl Store {
         ensures honest { D.honest disk.new ≡ D.honest disk.old }
     {
         let size = slot_len(shape);
-        let front = front_of(alloc, size, digest)?;
+        let front = front_of(size, digest);
         let piece = new_piece(alloc)?;
         close_file(disk)?;
         write_blank(disk, &front, 64 + size, 63 + 2 * size)?;

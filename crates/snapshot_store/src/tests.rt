@@ -377,8 +377,8 @@ fn a_stop_at_each_call_leaves_the_last_kept_or_the_next(rt: HostRuntime) -> Resu
     Ok(())
 }
 
-// A second snapshot whose gate was opened and not synced, then an open, with a sync before it or without, and a third
-// snapshot whose old gate was closed and not synced. These calls fail.
+// A second snapshot whose gate was opened and not synced, then an open, which makes 4 calls, with a sync before it or without,
+// and a third snapshot whose old gate was closed and not synced. These calls fail.
 fn resumed(alloc: Global, syncs: bool, fails: [u64; 2]) -> Result<(MemDisk, Answer), NoMemory> {
     let fails = Vec::from_slice(alloc, &fails)?;
     let (mut disk, store) = created(alloc, &[], fails, None)?;
@@ -403,11 +403,11 @@ fn resumed(alloc: Global, syncs: bool, fails: [u64; 2]) -> Result<(MemDisk, Answ
 #[test]
 fn a_sync_before_the_open_keeps_what_was_read(rt: HostRuntime) -> Result<(), Fail> {
     let alloc = rt.alloc();
-    let (disk, answer) = resumed(alloc, false, [22, 28])?;
+    let (disk, answer) = resumed(alloc, false, [22, 30])?;
     assert_eq!(rt; answer, Answer::Last(2));
     let image = disk.crash_image(alloc, Pick::Mixed(0))?;
     assert_eq!(rt; open_bytes(alloc, &image, &DIGEST)?, Answer::Nothing);
-    let (disk, answer) = resumed(alloc, true, [22, 29])?;
+    let (disk, answer) = resumed(alloc, true, [22, 31])?;
     assert_eq!(rt; answer, Answer::Last(2));
     assert!(rt; images_open(alloc, &disk, 2, 2)?);
     Ok(())
